@@ -4,12 +4,14 @@
     python3 bench/documents.py            writes the generated pages again
     python3 bench/documents.py --check    writes nothing, and fails if a page would change
 
-The script fails if a name between backquotes isn't in the tree, if the list of bench/README.md doesn't name each file of
-bench/ once, if a source file has no comment at its head, if a picture would change (pictures.py), if a refusal code comes
-before its name on a page, if a command of a page doesn't exist (page_checks.py), if a crate doesn't export a name of
+The generated parts are CLAUSES, DEFINITIONS and MAP, the tables of definitions in PROOFS, and the tables of files in the
+READMEs of folders and crates (folder_pages.py). The script fails if a name between backquotes isn't in the tree, if the
+list of bench/README.md doesn't name each file of bench/ once, if a source file has no comment at its head, if a picture
+would change (pictures.py), if a refusal code comes before its name on a page, if a command of a page doesn't exist
+(page_checks.py), if a list of refusals differs from the definitions (refusals.py), if a crate doesn't export a name of
 docs/PROMISED_CALLS.txt, or if no test calls it by its path. A name is a path, or a word of the code: a word with `_`, `::`
-or a capital letter within it. In a crate's page, a path that begins with `src/`, `specs/`, `proofs/`, `data/` or
-`must-fail/` is a path of that crate; in any other page it is a path of some crate. All other paths begin at the root of the
+or a capital letter within it. In a crate's page, a path that begins with `src/`, `specs/`, `proofs/`, `data/` or `must-
+fail/` is a path of that crate; in any other page it is a path of some crate. All other paths begin at the root of the
 repository.
 """
 
@@ -21,9 +23,11 @@ sys.path.insert(1, str(Path(__file__).resolve().parent / 'pages'))
 import clauses
 import definitions
 import file_map
+import folder_pages
 import page_checks
 import pictures
 import promised
+import refusals
 
 ROOT = Path(__file__).resolve().parent.parent
 PROOFS, DEFINITIONS, CLAUSES, MAP = (ROOT / 'docs' / f'{name}.md' for name in ('PROOFS', 'DEFINITIONS', 'CLAUSES', 'MAP'))
@@ -32,7 +36,6 @@ ELSEWHERE = {'sqlite_std_file', 'elf_x86_64', 'thread_local', 'lW', '__cxa_atexi
 QUOTED = re.compile(r'`([^`\n]+)`')
 NAME = re.compile(r'[A-Za-z_][\w]*(?:::[A-Za-z_]\w*)*')
 PATH = re.compile(r'^[\w.{},*-]+(?:/[\w.{},*-]+)+/?$')
-BRACES = re.compile(r'\{([^{}]*)\}')
 OF_THE_ROOT, IN_A_CRATE = ('crates', 'docs', 'bench', 'c', 'python', '.ci'), ('src', 'specs', 'proofs', 'data', 'must-fail')
 # MADE: the folder that a build makes. PATTERN: a path with a word in capitals, such as must-fail/THE_MISTAKE.edit, which
 # represents many paths of a crate.
@@ -59,33 +62,28 @@ def pages():
         PROOFS: replaced(text, 'reading', definitions.reading(files)),
         DEFINITIONS: definitions.page(files, first, needed),
         CLAUSES: clauses.page(definitions.CRATES),
-        MAP: file_map.page(crates())[0]}
+        MAP: file_map.page(crates())[0],
+        **folder_pages.pages(crates())}
 
 
 def written():
     """Returns the documents that are written by hand."""
-    found = [ROOT / 'README.md', ROOT / 'CONTRIBUTING.md', *sorted(ROOT.glob('docs/*.md')), *sorted(ROOT.glob('crates/*/README.md'))]
+    found = [ROOT / 'README.md', ROOT / 'CONTRIBUTING.md', *sorted(ROOT.glob('docs/*.md')), *sorted(ROOT.glob('crates/*/README.md')),
+             *(ROOT / folder / 'README.md' for folder in ('bench', *folder_pages.FOLDERS))]
     return [path.relative_to(ROOT).as_posix() for path in found if path not in (CLAUSES, DEFINITIONS, MAP)]
 
 
 def words_of_the_tree():
-    """Returns every word of the code."""
+    """Returns every word of the code and of the files' names."""
     words = set()
     for path in ROOT.rglob('*'):
         parts = path.relative_to(ROOT).parts
         if MADE in parts or parts[0] == '.git':
             continue
+        words.update(re.findall(r'[A-Za-z_]\w*', path.name))
         if path.is_file() and path.suffix in ('.rt', '.antt', '.py', '.c', '.h', '.sh', '.rs', '.txt', '.edit', '') and path.stat().st_size < 2 ** 22:
             words.update(re.findall(r'[A-Za-z_]\w*', path.read_text(errors='replace')))
     return words
-
-
-def expanded(path):
-    """Returns the paths that a path with braces abbreviates."""
-    found = BRACES.search(path)
-    if not found:
-        return [path]
-    return [it for part in found[1].split(',') for it in expanded(path[:found.start()] + part + path[found.end():])]
 
 
 def is_there(path, crate):
@@ -106,7 +104,7 @@ def unknown_names(text, words, crate):
     for quoted in QUOTED.findall(text):
         if PATH.match(quoted) and quoted.split('/')[0] in OF_THE_ROOT + IN_A_CRATE:
             if MADE not in quoted.split('/') and not PATTERN.match(quoted):
-                yield from (path for path in expanded(quoted) if not is_there(path.strip('/'), crate))
+                yield from (path for path in folder_pages.expanded(quoted) if not is_there(path.strip('/'), crate))
             continue
         for name in NAME.findall(quoted):
             if is_in_code(name) and any(part not in words and part not in ELSEWHERE for part in name.split('::')):
@@ -125,6 +123,7 @@ def faults_of_files():
     yield from (f'bench/README.md names {name} not once' for name in unlisted())
     yield from (f'{name} has no comment at its head' for name in file_map.page(crates())[1])
     yield from promised.broken()
+    yield from refusals.wrong()
     if '--check' in sys.argv:
         yield from pictures.wrong()
 

@@ -146,10 +146,10 @@ soname=librlibreg.so.${version%.*}
 )
 
 # The parts of the driver: its specs, the script that links, the object at which programs begin, the
-# archives of what programs and C++ may ask for, the awk scripts for version scripts and files of words,
-# and the kernel's headers. The driver's programs contain musl, whichever C library CC is for. The object
-# at which they begin is small, because each page that a start touches takes time. It has no stack
-# protector, because none is set up at that time.
+# archives of the objects that programs and C++ may need, the awk scripts for version scripts and files
+# of words, and the kernel's headers. The driver's programs contain musl, even if CC is for another C
+# library. The object at which they begin is small, because each page that a start touches takes time. It
+# has no stack protector, because none is set up at that time.
 (
     of_program="$flags -g0 -fno-stack-protector -U_FORTIFY_SOURCE"
     for part in begin begin_calls objects; do

@@ -58,7 +58,7 @@ def make(i, length):
 
 
 def fill(path, number, length):
-    """Makes a disk with `number` libraries, and with room for one more if there may be one more."""
+    """Makes a disk with `number` libraries. If a registry may have another library, the disk has room for it."""
     size = len(make(0, length))
     sectors = number * (size // 512 + 2) + number // 16 + 2 * size // 512 + 100
     program = f'{sys.argv[1]}/rlibreg'
@@ -69,7 +69,7 @@ def fill(path, number, length):
 
 
 def install_one(it, path, file):
-    """Prints how long an installation takes with its syncs, once the disk is open."""
+    """Prints the time of an installation with its syncs, over an open disk."""
     registry = ctypes.c_void_p(it.rlibreg_create())
     assert it.rlibreg_open(registry, path.encode(), RLIBREG_READ_WRITE) == 0
     start = time.perf_counter()

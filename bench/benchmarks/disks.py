@@ -51,7 +51,7 @@ class Bench:
         return self.run([self.program, *words], given, status)
 
     def least(self, words, start=None, given=b''):
-        """Returns the least times of some runs, each from a copy of a disk as it was."""
+        """Returns the least times of some runs, each from a copy of the original disk."""
         rows = []
         for _ in range(RUNS):
             if start:

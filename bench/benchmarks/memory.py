@@ -72,7 +72,7 @@ class Group:
         return ['sh', '-c', JOIN, self.at, *words] if self.at else words
 
     def counts(self):
-        """Returns how much memory the group has, and how much of it stays if others need memory, in KiB."""
+        """Returns the memory of the group, and the part of it that the system can't free, in KiB."""
         if not self.at or not (self.at / self.used).exists():
             return 0, 0
         told = dict(line.split() for line in (self.at / 'memory.stat').read_text().splitlines())

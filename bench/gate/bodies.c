@@ -52,7 +52,7 @@ static bool is(const char *body) {
     return this && !strcmp(this, body);
 }
 
-/* Returns whether the body drops the cache at another place than the program does. */
+/* Returns whether the body drops the cache at a different place than the program. */
 static bool moves_the_cache(void) {
     return is("none") || is("before") || is("after_read");
 }
@@ -83,7 +83,7 @@ int fcntl(int descriptor, int command, ...) {
     return NEXT(int, "fsync", int)(descriptor);
 }
 
-/* Returns whether a read past memory is replaced by a read of memory. */
+/* Returns whether the body replaces this read past memory by a read of memory. */
 static bool is_believed(int descriptor, ssize_t answer) {
     bool again = compared[descriptor]++;
     return is("not_compared") || (is("compared_once") && again) || (is("failed_equal") && answer < 0);

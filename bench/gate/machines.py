@@ -46,7 +46,7 @@ def is_shown_otherwise(held):
 
 
 def steps_of(log):
-    """Returns how many steps a run had, as the stand-in counts them."""
+    """Returns the number of steps of a run, as the stand-in counts them."""
     return sum(line[0] in STEPS or line[0] == 'open' and line[3] == 'made' for line in log)
 
 

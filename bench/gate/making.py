@@ -342,7 +342,7 @@ class Making:
                 subprocess.run(['umount', '-l', str(self.place)], check=True)
 
     def mount(self, *words):
-        """Mounts a file system where the disk is made, if the user may do so."""
+        """Mounts a file system at the place of the disk, if the user may do so."""
         return not os.getuid() and not subprocess.run(['mount', *words, str(self.place)], capture_output=True).returncode
 
     def fill(self):

@@ -58,7 +58,7 @@ class NotHere(Exception):
 
 
 def system(*words, **how):
-    """Runs a tool of the system. If the tool fails, that is the reason to leave a part out."""
+    """Runs a tool of the system. If the machine lacks the tool, or the tool fails, raises NotHere with the reason."""
     if not has(words[0]):
         raise NotHere(f'there is no {words[0]}')
     path = os.environ.get('PATH', '') + ':/usr/sbin:/sbin'
@@ -163,7 +163,8 @@ class Media:
         return [self.by.run(words, given, **how)[:3] for words, given in self.reads(str(disk))]
 
     def only_read(self, kind, disk, plain, **how):
-        """Checks that these commands answer as on a plain file, and that a change is refused and changes nothing."""
+        """Checks that these commands have the same answers as on a plain file, and that a change is refused and
+        changes nothing."""
         self.want(kind, self.answers(disk, **how) == plain, self.answers(disk, **how), 'and not', plain)
         for words, given in self.changes(str(disk)) + self.makings(str(disk), 64):
             ended = self.by.run(words, given, **how)
@@ -208,7 +209,7 @@ class Media:
             self.want(f'{kind}, a program is started', ended.returncode == STARTED, ended)
 
     def another_user(self):
-        """Tries a file that only its owner may write, and one that only its owner may read."""
+        """Tries a file that only its owner may write, and a file that only its owner may read."""
         path = self.by.path
         self.by.path = for_others(path, self.folder) or path
         if self.by.path == path:

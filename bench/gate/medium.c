@@ -104,7 +104,7 @@ static void note(const char *form, ...) {
     errno = saved;
 }
 
-/* Begins a step: the process ends before it, if it is the step of the cut. */
+/* Begins a step. If the cut is at this step, the process ends before it. */
 static void step(void) {
     if (++steps == cut) _exit(CUT_STATUS);
 }
@@ -149,7 +149,8 @@ static void set_dirty(off_t from, size_t size) {
     }
 }
 
-/* Returns the file, open for reading and writing, whatever its own descriptor permits. */
+/* Returns a new descriptor of the file for reading and writing, even if `descriptor` permits
+ * less. */
 static int file_again(int descriptor) {
     char path[64];
     snprintf(path, sizeof path, "/proc/self/fd/%d", descriptor);
@@ -177,7 +178,8 @@ static bool is_brought(const char *brought, off_t page) {
     return !strcmp(brought, "all") || !strcmp(brought, "half");
 }
 
-/* Writes the dirty pages to the medium, or those that a failing sync writes. */
+/* Writes to the medium the dirty pages that `brought` selects: all pages if the sync succeeds, and
+ * otherwise the pages that a failing sync writes. */
 static void bring_pages(int descriptor, const char *brought) {
     int file = file_again(descriptor);
     size_t front = !strcmp(brought, "half") ? PAGE / 2 : PAGE;
@@ -190,7 +192,7 @@ static void bring_pages(int descriptor, const char *brought) {
     syscall(SYS_close, file);
 }
 
-/* Returns whether the sync of this number is one of those that fail. */
+/* Returns whether the sync of this number has to fail. */
 static bool is_to_fail(int number) {
     const char *list = getenv("MEDIUM_FAIL");
     if (getenv("MEDIUM_READ_ONLY")) return true;

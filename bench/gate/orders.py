@@ -19,7 +19,8 @@ class OpenFile:
     def __init__(self, is_made):
         self.descriptors, self.lock, self.synced, self.read, self.written = 1, '', False, False, False
         self.is_made = is_made
-        # Whether the roots were found to be the medium's, or this can't be found out.
+        # Whether the roots are known to be those of the medium, and whether nobody can find this
+        # out.
         self.agrees = self.is_blind = False
         # The length of the last drop, and whether the front was gone after it.
         self.let_go, self.is_gone = 0, False
@@ -80,7 +81,8 @@ class Order:
         self.fault_if(not file.synced or words[1:] != ['0', str(PAGE)], 'the roots are compared before the sync')
 
     def kept(self, file, words):
-        """Handles a read of memory: a comparison, if the next call asks for what the medium has, and otherwise a read."""
+        """Handles a read of memory: it belongs to a comparison if the next call reads the medium, and otherwise it
+        is a plain read."""
         behind = self.log[self.at + 1:self.at + 2]
         is_compared = behind and behind[0][0] in ('past', 'refused')
         (self.looked if is_compared else self.read)(file, words)

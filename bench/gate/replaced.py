@@ -133,7 +133,7 @@ class Replaced:
     # Between two lines.
 
     def lines(self, by, words, first, replies, rest, do):
-        """Returns the answers to the lines `rest`, if `do` is called once the lines `first` are answered."""
+        """Returns the answers to the lines `rest`, if `do` is called after the answers to the lines `first`."""
         self.put(self.one)
         with subprocess.Popen([by.path, *words], cwd=self.folder, stdin=subprocess.PIPE, stdout=subprocess.PIPE) as process:
             process.stdin.write(first)
@@ -182,12 +182,12 @@ class Replaced:
         return process
 
     def syncs_of(self, by, words, given=b''):
-        """Returns how many syncs a command makes if nobody disturbs it, and how it ended."""
+        """Returns the number of syncs of a command that nobody disturbs, and how the command ended."""
         ended = by.end(self.traced(by, words, given))
         return self.log.read_text().count('fsync('), ended
 
     def stopped(self, by, words, number, do, given=b'', more=()):
-        """Returns how a command ends if `do` is called after its sync number `number`."""
+        """Returns the end of a command if `do` is called after the command's sync number `number`."""
         process = self.traced(by, words, given, more, number)
         end = time.monotonic() + SECONDS
         while process.poll() is None and time.monotonic() < end:
@@ -248,7 +248,7 @@ class Replaced:
                 self.want(self.program, f'a disk at {path}, {do.__name__}', good, ended)
 
     def open_files(self):
-        """Checks that the path of an open file names it, whatever happens to the file's own path."""
+        """Checks that the path of an open file's descriptor names the file, even if the file's own path changes."""
         for form in ('/dev/fd/{}', '/proc/self/fd/{}'):
             self.put(self.one)
             fd = os.open(self.disk, os.O_RDWR)
@@ -259,7 +259,8 @@ class Replaced:
                 os.close(fd)
 
     def others_take_no_notice(self):
-        """Checks that commands that only read answer as without the replacement, and that a missing disk is made."""
+        """Checks that commands that only read have the same answers as without the replacement, and that a missing
+        disk is made."""
         for words in (['list', 'disk'], ['bind', 'disk', '../alone', '0x100000']):
             self.put(self.one)
             plain = self.program.run(words)

@@ -1,5 +1,5 @@
 /*
- * Makes reads or writes of a program transfer fewer bytes than it asks for, as a system may.
+ * Makes reads or writes of a program transfer fewer bytes than the program requests, as a system may.
  * SHORT_CALL is `pread` or `pwrite`, and each such call transfers at most SHORT_BYTES bytes. If
  * SHORT_NUMBER is given, only the call of this number does so, counted from 1.
  *

@@ -85,7 +85,7 @@ class Short:
         self.ends[kind]['as if none were short' if done else f'status {ended[0]}'] += 1
 
     def calls(self, words, plain):
-        """Returns each read and each write: its name, how many bytes it asks for, and from where."""
+        """Returns each read and each write: its name, the requested number of bytes, and the offset."""
         log = self.bench.folder / 'calls'
         self.bench.put(plain.start)
         self.bench.run(words, ['strace', '-qq', '-o', str(log), '-e', 'trace=pread64,pwrite64'])

@@ -27,7 +27,8 @@ class Streams:
 
     NAME, BAD_LINE = 'rlibreg', b'bad command line'
     UNWRITTEN = b''  # the message if the output fails
-    # The command that reads lines, with lines, how many reads these lines take, and the status if there are no lines.
+    # The command that reads lines; some lines; the number of reads that these lines take; and the status if there are
+    # no lines.
     READER, LINES, READS, NO_LINES = 'script', b'preload b a\nlist\n', 2, 0
 
     def __init__(self, program, folder, one, two, old):
@@ -234,7 +235,7 @@ class Streams:
         return self.run(words, {stream: given})
 
     def without_proc(self):
-        """Checks that a message is still printed if nothing can tell which file a stream leads to."""
+        """Checks that the program still prints a message if it can't find out which file a stream leads to."""
         hidden = ['unshare', '-m', 'sh', '-c', 'mount -t tmpfs none /proc && exec "$@"', 'sh']
         if os.getuid() or subprocess.run([*hidden, 'true'], capture_output=True).returncode:
             print('skipped: no /proc: nothing can be mounted')
@@ -248,8 +249,8 @@ class Streams:
             self.check('no /proc', ['list', name], 'a folder', plain, plain[:3] == (3, b'', f'rlibreg: cannot read {name}\n'.encode()), None, None)
 
     def interrupted(self):
-        """Checks that a read of lines that a signal interrupts is made again: the first, and the one that finds the
-        end of a script."""
+        """Checks that the program repeats a read of lines that a signal interrupts: the first read, and the read
+        that finds the end of a script."""
         if not shutil.which('strace'):
             print('skipped: an interrupted read: there is no strace')
             return

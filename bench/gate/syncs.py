@@ -157,8 +157,8 @@ class Bench:
                 self.wrong(fault, what)
 
     def run(self, way, command, what, **how):
-        """Makes a run, which has to end in a permitted way. Returns the way on from there, or None if the run ended in
-        another way."""
+        """Makes a run, which has to end in a permitted way. Returns the way that follows, or None if the run ended
+        otherwise."""
         ended = self.machine.run(way.held, command, **how)
         allowed = frozenset().union(*(self.book.after(state, command, ended) for state in way.allowed))
         self.judged += 1
@@ -174,7 +174,8 @@ class Bench:
         return ended, on
 
     def opened(self, way, **how):
-        """Runs a `list`: the state that it showed is shown again, also after a cut. Returns the way on from there."""
+        """Runs a `list`. Later commands have to show the same state again, even after a cut. Returns the way that
+        follows."""
         what = way.what + ', list'
         ended, shown = self.run(way, LIST, what, **how)
         if shown:
@@ -193,8 +194,8 @@ class Bench:
                 yield self.run(way, command, words + ', the next too', fail=f'{number},{number + 1}', brought=brought, **how)[1]
 
     def ways(self, way, command, parts, **how):
-        """Yields the ways that a command leads to, each once: it is done, a sync fails, or the process ends before a
-        step."""
+        """Yields each way to which a command leads, once: the command ends, a sync fails, or the process ends before
+        a step."""
         what = f'{way.what}, {command[0]}' if way.what else command[0]
         ended, on = self.run(way, command, what, **how)
         cuts = (self.run(way, command, f'{what} ended before step {n}', cut=n, **how)[1] for n in range(1, steps_of(ended.log) + 1))
@@ -276,7 +277,7 @@ class Bench:
             self.wrong('another answer', f'{way.what}, {command[0]}, {what}', f': {ended.status} {ended.output}')
 
     def shown_otherwise(self, way, further):
-        """Tries a medium that has other roots than are shown: a read past the system's memory fails, or isn't
+        """Tries a medium whose roots differ from the shown ones: a read past the system's memory fails, or isn't
         available, or another process has the roots mapped."""
         changes = [command for command in further if command[0] not in ('script', 'format')]
         mapped = way._replace(what=way.what + ', mapped')
@@ -290,8 +291,8 @@ class Bench:
                 self.opened(later)
 
     def faulty(self, start, command, further):
-        """Runs a command with its faults, and after each of them an opening and each further change. Returns how many
-        states it led to."""
+        """Runs a command with its faults, and after each of them an opening and each further change. Returns the
+        number of states to which it led."""
         states = 0
         for way in self.ways(start, command, PARTS):
             states += 1
@@ -319,7 +320,7 @@ class Bench:
 
 
 def disk_with(machine, *commands):
-    """Returns the bytes of a disk on which these commands were run after a format, with nothing failing."""
+    """Returns the bytes of a disk after a format and these commands, if nothing fails."""
     held = clean(None)
     for command in (FORMAT, *commands):
         ended = machine.run(held, command)

@@ -83,7 +83,7 @@ class State:
 
 
 def change_of(folder, words):
-    """Returns the change that a command asks for, as `State.changed` takes it."""
+    """Returns the change that a command requests, as `State.changed` takes it."""
     if words[0] in ('install', 'replace'):
         return words[0], [name(int(words[2].split('-')[1])).decode()], (folder / words[2]).stat().st_size
     return words[0], words[2:], 0
@@ -352,7 +352,7 @@ class Rounds:
         self.checks.want(kind, not (self.folder / '.disk.rlibreg-new').exists(), 'the other name is left')
 
     def holders(self):
-        """Tries a locked disk: what the commands answer, and how soon."""
+        """Tries a locked disk: the answers of the commands, and the times until they come."""
         for by in filter(None, (self.program, self.tool)):
             for how, kind in ((fcntl.LOCK_SH, f'{by.name}: a reader holds the disk'), (fcntl.LOCK_EX, f'{by.name}: a writer holds the disk')):
                 self.put(self.three)
@@ -392,7 +392,7 @@ class Rounds:
             self.checks.want(kind, ended[:3] == (status, b'', errors), words, ended)
 
     def traced(self, words, given, injected=()):
-        """Runs the command under strace. Returns how it ended, and what it did with the disk."""
+        """Runs the command under strace. Returns how the command ended, and the reads that it made of the disk."""
         log = self.folder / f'calls-{threading.get_ident()}'
         wrapped = ['strace', '-f', '-qq', '-o', str(log), '-P', str(self.disk)] + [it for one in injected for it in ('-e', f'inject={one}')]
         ended = self.program.run(words, given, wrapped)
@@ -400,7 +400,7 @@ class Rounds:
         return ended, [call for call in calls if call in READS]
 
     def unlocked(self):
-        """Checks that a locked disk isn't read, and neither is one on a file system that can't lock."""
+        """Checks that no command reads a locked disk, or a disk on a file system that can't lock."""
         for fault in (None, 'ENOLCK', 'EOPNOTSUPP', 'ENOSYS', 'EIO', 'EBADF'):
             kind, injected = (f'no lock: {fault}', [f'flock:error={fault}']) if fault else ('nothing is read of a held disk', [])
             self.put(self.three)
@@ -412,7 +412,7 @@ class Rounds:
                 self.checks.want(kind, good, words, ended, calls)
 
     def interrupted(self):
-        """Checks that a lock that a signal interrupts is requested again, or given up."""
+        """Checks that the program repeats a request for a lock that a signal interrupts, or gives up."""
         for _, words, given in self.commands():
             self.put(self.three)
             before = self.program.done('list', 'disk')

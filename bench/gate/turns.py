@@ -56,7 +56,7 @@ class Turns:
         return loops
 
     def end_loops(self, loops):
-        """Ends the loops. Returns how many starts ended with each status."""
+        """Ends the loops. Returns the number of starts that ended with each status."""
         found = collections.Counter()
         for loop, _ in loops:
             loop.kill()
@@ -81,7 +81,7 @@ class Turns:
         return sorted(times)
 
     def beside(self, kind, loops, changes):
-        """Returns the times of updaters and of replacements, and what the loops did."""
+        """Returns the times of updaters and of replacements, and the results of the loops."""
         begun = self.begin_loops(kind, loops)
         since = time.perf_counter()
         time.sleep(0.2)

@@ -390,7 +390,7 @@ def page(files, first, needed):
 
 
 def lines_of(files, wanted):
-    """Returns how many lines these definitions have, without comments, imports and empty lines."""
+    """Returns the number of lines of these definitions, without comments, imports and empty lines."""
     count = 0
     for path in sorted((ROOT / 'crates').glob('*/specs/*.antt')):
         file, name = key_of(path), None

@@ -30,6 +30,7 @@ FOLDERS = {
     'python/rlibreg': 'the Python module',
     'python/tests': 'its tests',
     '.ci': 'the gate',
+    '.ci/tool.d': 'the parts of `.ci/tool`',
     'bench': 'the commands that make the documents and the Debian package; the folders have tests, benchmarks and the parts of both ([by kind](../bench/README.md))',
     'bench/gate': 'the tests over files and systems that the gate runs',
     'bench/trials': 'the tests that are run by hand, over devices, kernels and real programs',
@@ -87,7 +88,7 @@ def sentence(path):
 
 def files_in(folder, tracked):
     """Returns the listed files of a folder, in the order of their names."""
-    return [ROOT / name for name in tracked if str(Path(name).parent) == folder
+    return [ROOT / name for name in sorted(tracked) if str(Path(name).parent) == folder
             and Path(name).suffix in ENDINGS and Path(name).name not in UNLISTED and (ROOT / name).exists()]
 
 

@@ -61,7 +61,7 @@ class Program:
 class CLibrary(Program):
     """The program over the C library, c/tests/library/tool.c, which takes the same arguments as `rlibreg`."""
 
-    # For a program with the sanitizer of addresses: under strace, it must not look for leaks.
+    # A program with the address sanitizer must not search for leaks under strace.
     name, more = 'C library', {'ASAN_OPTIONS': 'detect_leaks=0'}
 
     def unread(self, ended, disk):
@@ -143,7 +143,7 @@ def emptied(folder):
 
 
 def looks(path):
-    """Returns a description of what a path names. Opens only regular files."""
+    """Returns a description of the thing that a path names. Opens only regular files."""
     try:
         found = os.lstat(path)
     except FileNotFoundError:

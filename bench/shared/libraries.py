@@ -210,7 +210,7 @@ def make(folder):
 
 
 def least(words, place):
-    """Returns the least real time and the least of user + system of some runs."""
+    """Returns the least real time and the least user + system time of some runs."""
     rows = []
     for _ in range(RUNS):
         before, start = resource.getrusage(resource.RUSAGE_CHILDREN), time.perf_counter()

@@ -83,7 +83,7 @@ END
     cat > "$ways/ostree" << END
 new=/var/registry/\$number/disk
 [ ! /etc/rlibreg/disk -ef \$new ] || exit 0 # the next lines would remove the live registry
-# Without the commit before its delta, the whole file would be loaded too.
+# Without the commit before its delta, OSTree would also load the whole file.
 for only in --commit-metadata-only ''; do
     ostree --repo=/var/ostree pull --url=\$url/ostree \$only fleet v\$number
 done
@@ -140,7 +140,7 @@ at() {
     sed -n 's/^rlibreg: at \([1-4]\).*/\1/p' "$room/said"
 }
 
-# counted: prints what the server sent between `begin` and `end`, in KB.
+# counted: prints the amount that the server sent between `begin` and `end`, in KB.
 counted() {
     awk '$1 ~ /^\/begin/ {way = substr($1, 8); sum = 0; next} $1 == "/end" {printf "%s: %d KB\n", way, sum / 1000}
         {sum += $2}' "$room/log"

@@ -51,8 +51,8 @@ begins() {
     [ "$(version)" = "$2" ] || failed "$1 doesn't begin with $2"
 }
 
-# reaches WAY: brings the device to version 4. The way `list` is run as often as necessary, any other way
-# once.
+# reaches WAY: brings the device to version 4. Runs the way `list` as often as necessary, and any other
+# way once.
 reaches() {
     local at
     while at=$(version) && [ "$at" != 4 ]; do

@@ -67,7 +67,7 @@ class Disk:
     def read(self):
         return read(self.path, SECTOR * SECTORS)
 
-    # Changes of registries. Each returns what it did, as text.
+    # Changes of registries. Each returns a text that describes it.
 
     def other_bytes(self):
         content = self.registry()

@@ -7,7 +7,7 @@ own commands.
 PROGRAMS has rlibreg, rlibreg-run, rlibreg-tool and rlibreg-gcc (c/build.sh). Each program has musl inside, and its own code
 in libraries of a registry, as docs/LINKING.md says. Its output, its status and the files that it leaves are compared with
 those of the same sources linked statically. The executable file of its image is compared too. If the script runs as root, a
-user without privileges does all of it once more. SOURCES keeps the archives; `apt-get source` gets those that aren't there.
+user without privileges repeats all of it. SOURCES keeps the archives; `apt-get source` gets those that aren't there.
 If this machine lacks something, the part that needs it is left out, and a line reports this.
 """
 
@@ -110,7 +110,7 @@ class Bench:
             self.checks.want(kind, wanted[1] == left, 'files:', sorted(wanted[1]), sorted(left))
 
     def users(self):
-        """Yields the users who start the programs, and the words by which they do."""
+        """Yields the users who start the programs, each with the words that come before the command."""
         yield 'who asked', []
         paths = [self.programs / 'rlibreg-run', self.folder]
         if not has('setpriv') or subprocess.run([*NOBODY, 'true'], capture_output=True).returncode:
@@ -152,7 +152,7 @@ def try_all(bench, sources, names):
 
 
 def asked_for():
-    """Returns what the command line asks for, and empties FOLDER."""
+    """Returns the arguments of the command line, and empties FOLDER."""
     asked = argparse.ArgumentParser()
     asked.add_argument('programs', type=Path)
     asked.add_argument('folder', type=Path)

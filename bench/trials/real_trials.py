@@ -65,7 +65,7 @@ def lua_trials(build):
 
 
 def is_database_right(_, left, place):
-    """Checks that Python's SQLite finds what the shell has left."""
+    """Checks that Python's SQLite finds the data that the shell has left."""
     with sqlite3.connect(f'file:{place}/database?mode=ro&immutable=1', uri=True) as it:
         counts = it.execute('SELECT count(*), sum(id) FROM people').fetchone()
         sound = it.execute('PRAGMA integrity_check').fetchall()
@@ -81,7 +81,7 @@ def sqlite_trials(_):
 
 
 def right(*_):
-    """Accepts any results, which only have to be those of the static program."""
+    """Accepts all results: they only have to equal those of the static program."""
     return True
 
 

@@ -1,4 +1,4 @@
-"""Projects of Debian's sources without changes, each built by its own commands: with CC=rlibreg-gcc, and once more as static
+"""Projects of Debian's sources without changes, each built by its own commands: with CC=rlibreg-gcc, and again as static
 programs by musl-gcc. docs/LINKING.md has a table of them."""
 
 import collections

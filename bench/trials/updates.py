@@ -107,7 +107,7 @@ class Draft:
         return None
 
     def lacks_room(self, command, data):
-        """Returns whether there are fewer free sectors than the file costs. The following sectors aren't free: the
+        """Returns whether there are fewer free sectors than the file needs. The following sectors aren't free: the
         roots, the files and entries of the current state and of the plan, and twice as many as the larger of the two
         numbers of catalogues."""
         count = len(self.state.libraries)

@@ -21,11 +21,11 @@ typedef void initializer(int, char **, char **);
 extern initializer *const __init_array_start[], *const __init_array_end[];
 #pragma GCC visibility pop
 
-static int is_set_up;        /* whether musl is set up */
-static void (*at_end)(void); /* finalizes the libraries, or null */
+static int is_set_up;        /* whether musl has been set up */
+static void (*at_end)(void); /* function that finalizes the libraries, or null */
 
-/* By this note the program says that it calls its libraries' initializers and finalizers if no
- * loader does. `rlibreg-tool executable` reads the note. Its name has eight bytes, it has no
+/* By this note the program states that it calls its libraries' initializers and finalizers if no
+ * loader does. `rlibreg-tool executable` reads the note. The note's name has eight bytes, it has no
  * descriptor, and its type is 1. */
 __asm__(".pushsection .note.rlibreg, \"a\", @note\n"
         "  .balign 4\n"
@@ -35,7 +35,7 @@ __asm__(".pushsection .note.rlibreg, \"a\", @note\n"
 
 static void set_up(int count, char **words, char **environment) {
     (void)count;
-    /* The exchange writes the page at once. A read before the write would cause a second page
+    /* The exchange writes the page immediately. A read before the write would cause a second page
      * fault. */
     if (!__atomic_exchange_n(&is_set_up, 1, __ATOMIC_RELAXED)) __init_libc(environment, words[0]);
 }
@@ -43,9 +43,9 @@ static void set_up(int count, char **words, char **environment) {
 /* This file is linked first, so `set_up` is the first function of the array. */
 __attribute__((section(".preinit_array"), used)) static initializer *const first = set_up;
 
-/* Starts the program. `stack` is the stack as the program finds it. `end` is the value that the
- * program finds in rdx. From rlibreg-run it is a function that finalizes the libraries, or null;
- * from musl's loader it means nothing. */
+/* Starts the program. `stack` is the stack as the program finds it, and `end` is the value that the
+ * program finds in rdx. If rlibreg-run started the program, `end` is a function that finalizes the
+ * libraries, or null. Under musl's loader, `end` has no meaning. */
 __attribute__((used)) static _Noreturn void begin(long *stack, void (*end)(void)) {
     int count = (int)*stack;
     char **words = (char **)(stack + 1);
@@ -71,8 +71,8 @@ __asm__(".globl _start\n"
         "  and $-16, %rsp\n"
         "  call begin\n");
 
-/* Finalizes the libraries. By its priority it is called after all other destructors of the program.
- * If a library's initializer ends the process, no library is finalized. */
+/* Finalizes the libraries. Because of its priority, this is called after all other destructors of
+ * the program. If a library's initializer ends the process, no library is finalized. */
 __attribute__((destructor(101))) static void end(void) {
     if (at_end) at_end();
 }

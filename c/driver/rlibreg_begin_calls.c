@@ -1,6 +1,6 @@
-/* Calls the libraries' initializers and finalizers if no loader does. As in rlibreg-run, a function
- * has to lie in the code of the object that names it (rlibreg_run_calls.c), and the order is the
- * same (rlibreg_run_order.c). */
+/* Calls the libraries' initializers and finalizers if no loader does. In the same way as
+ * rlibreg-run, requires that a function lies in the code of the object that names it
+ * (rlibreg_run_calls.c), and uses the same order (rlibreg_run_order.c). */
 #define _GNU_SOURCE
 #include "rlibreg_begin.h"
 #include "rlibreg_objects.h"
@@ -23,14 +23,16 @@ struct functions {
     size_t count;
 };
 
-/* A walk over the libraries, which are named by their numbers. It is mapped only if it is needed,
- * so that other starts touch fewer pages. */
+/* A walk over the libraries, which are identified by their numbers. It is mapped only if it is
+ * needed, so that other starts touch fewer pages. */
 struct walk {
     struct rlibreg_objects objects;
-    char was_entered[MOST + 1];  /* by number */
+    char was_entered[MOST + 1];  /* by the number of the library */
     uint16_t order[MOST];        /* the order in which the libraries are initialized */
-    size_t ordered;              /* number of libraries in `order` that aren't finalized yet */
-    struct functions finalizers; /* those of one library that remain; `last` is its DT_FINI, or 0 */
+    size_t ordered;              /* number of libraries in `order` that haven't been finalized
+                                  * yet */
+    struct functions finalizers; /* finalizers of one library that haven't been called yet;
+                                  * `last` is its DT_FINI, or 0 */
     uintptr_t last;
 };
 static struct walk *walked;
@@ -101,7 +103,7 @@ static struct functions finalizers_of(const struct rlibreg_object *it) {
     return array_of(it, DT_FINI_ARRAY, DT_FINI_ARRAYSZ, "DT_FINI_ARRAY");
 }
 
-/* Ends the process if a function or an array isn't where it has to be. */
+/* Ends the process if a function or an array doesn't lie in the object's own code or memory. */
 static void test(const struct rlibreg_object *it) {
     function_of(it, DT_INIT, "DT_INIT");
     function_of(it, DT_FINI, "DT_FINI");
@@ -149,7 +151,7 @@ void rlibreg_initialize(int count, char **words, char **environment) {
             initialize(&objects[walk->order[i]], count, words, environment);
 }
 
-/* Returns the next finalizer, or 0 if all finalizers were called. */
+/* Returns the next finalizer, or 0 if all finalizers have been called. */
 static uintptr_t next_finalizer(struct walk *walk) {
     while (!walk->finalizers.count && !walk->last && walk->ordered) {
         const struct rlibreg_object *it = &walk->objects.at[walk->order[--walk->ordered]];

@@ -31,8 +31,8 @@ static const char *path_of(const struct rlibreg_object *it) {
     return path ? path : "";
 }
 
-/* Returns the handle of an object. Fills all entries of `maps` each time. Several threads may do so
- * at once, because they write the same values. */
+/* Returns the handle of an object. Fills all entries of `maps` each time. Several threads may do
+ * this at the same time, because they write the same values. */
 static struct link_map *handle_of(const struct rlibreg_object *it) {
     struct rlibreg_objects all = rlibreg_all_objects();
     for (size_t i = 0; i < all.count; i++) {

@@ -3,7 +3,7 @@
  *
  * Each object has a control block, which the compiler makes. The object gets a number when it is first
  * used. Each thread has a table of its copies of the objects, by these numbers. A thread's copy is made
- * when the thread first asks for it, in memory of mmap(2), because the program's malloc may have
+ * when the thread first requests it, in memory of mmap(2), because the program's malloc may have
  * thread-local data itself. No lock is taken, so no lock stays locked in a child if another thread makes
  * a copy during fork(2). Signals are blocked while a copy is made, because their handlers may use
  * thread-local data too. */
@@ -20,11 +20,13 @@
 
 enum { PIECE = 16384 };
 
-/* The control block of an object, as the compilers make it. `number` is 0 until the object is
- * used. */
+/* The control block of an object, as the compilers make it. `number` is 0 until the object is used
+ * for the first time. */
 struct control {
     size_t size, alignment, number;
-    const void *first; /* the bytes of a new copy, or null for zeros */
+    const void *first; /* Locks a file. Returns 0, or -1 with errno. The system's udev locks a
+                        * device for a moment after each writer has closed it. For this reason, a
+                        * change to a device retries for a moment, even without RLIBREG_WAIT. */
 };
 
 /* Mapped memory. Each piece begins with this structure. */
@@ -35,10 +37,10 @@ struct piece {
 
 struct thread {
     struct piece *pieces;
-    uintptr_t unused, end; /* of the newest piece */
-    size_t rounds;         /* of destructors that this thread has been through */
+    uintptr_t unused, end; /* addresses of the unused bytes of the newest piece */
+    size_t rounds;         /* number of rounds of destructors that this thread has been through */
     size_t room;           /* the number of pointers in `copies` */
-    void **copies;         /* the copy of the object with number n is copies[n - 1], or null */
+    void **copies;         /* the copy of object number n is copies[n - 1], or null */
 };
 
 static size_t last_number;
@@ -78,8 +80,8 @@ static void *allocate(struct thread *thread, size_t size, size_t alignment) {
     return (void *)at;
 }
 
-/* Unmaps a thread's copies in the last round of destructors, because other destructors may use the
- * copies until then. */
+/* Unmaps a thread's copies, but only in the last round of destructors, because other destructors
+ * may use the copies. */
 static void end_thread(void *given) {
     struct thread *thread = given;
     if (++thread->rounds < PTHREAD_DESTRUCTOR_ITERATIONS) {
@@ -92,8 +94,8 @@ static void end_thread(void *given) {
     }
 }
 
-/* Makes the key, unless there is one already. The key is made before `main`, because the program may later
- * use up all keys. */
+/* Makes the key, unless there already is one. The key is made before `main`, because the program
+ * may use up all keys later. */
 __attribute__((constructor(101))) static void make_key(void) {
     pthread_key_t none = 0, made;
     if (__atomic_load_n(&key_and_one, __ATOMIC_ACQUIRE)) return;
@@ -102,7 +104,7 @@ __attribute__((constructor(101))) static void make_key(void) {
         pthread_key_delete(made);
 }
 
-/* Returns an object's number. An object without a number gets one now. */
+/* Returns an object's number. Gives the object a number if it has none. */
 static size_t number_of(struct control *it) {
     size_t number = __atomic_load_n(&it->number, __ATOMIC_ACQUIRE), none = 0;
     if (number) return number;
@@ -160,8 +162,8 @@ void *__emutls_get_address(struct control *it) {
     return make_copy(it);
 }
 
-/* Constructors call this for data that `-fcommon` lets several objects define, each with its own size. The
- * largest size counts. */
+/* Constructors call this for data that `-fcommon` lets several objects define, each with its own
+ * size. The largest size is used. */
 void __emutls_register_common(struct control *it, size_t size, size_t alignment, const void *first) {
     if (it->size < size) {
         it->size = size;

@@ -141,7 +141,7 @@ static int read_library(const struct table *all, struct rlibreg_object *it, uint
 
 /* ---- All objects */
 
-/* Returns how many libraries have names before `name`. */
+/* Returns the number of libraries whose names come before `name`. */
 static size_t place_of(const struct table *all, const char *name) {
     size_t from = 0, to = all->named;
     while (from < to) {
@@ -176,7 +176,8 @@ static void add_program(struct table *all) {
     if (!&__ehdr_start) fail("the program's headers aren't in its memory", "");
     const Elf64_Phdr *header =
         (const Elf64_Phdr *)((const char *)&__ehdr_start + __ehdr_start.e_phoff);
-    while (header->p_type != PT_DYNAMIC) header++; /* each program that is accepted has one */
+    while (header->p_type != PT_DYNAMIC) header++; /* each program that is accepted has a
+                                                    * PT_DYNAMIC */
     it.base = (uintptr_t)_DYNAMIC - header->p_vaddr;
     read_headers(&it, &__ehdr_start);
     read_dynamic(&it);
@@ -232,7 +233,8 @@ static struct table *find_objects(void) {
     return all;
 }
 
-/* Returns the table of all objects. If two threads make it at the same time, one table is kept. */
+/* Returns the table of all objects. If two threads make it at the same time, both return the same
+ * table. */
 static const struct table *table(void) {
     struct table *it = __atomic_load_n(&found, __ATOMIC_ACQUIRE), *none = NULL;
     if (it) return it;

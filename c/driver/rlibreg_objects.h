@@ -1,5 +1,5 @@
-/* The objects of a bound program, which are the program itself and its libraries, as a program that
- * rlibreg-gcc links finds them in its own memory. */
+/* The objects of a bound program: the program itself and its libraries. A program that rlibreg-gcc
+ * links finds them in its own memory. */
 #ifndef RLIBREG_OBJECTS_H
 #define RLIBREG_OBJECTS_H
 
@@ -28,8 +28,8 @@ struct rlibreg_objects {
 };
 
 /* Returns the objects. The first call finds them. Several threads may make this call at the same
- * time, also in a child after fork(2). If the libraries that the program needs can't be found, the
- * call ends the process with a message. */
+ * time, even in a child after fork(2). If the libraries that the program needs can't be found, ends
+ * the process with a message. */
 struct rlibreg_objects rlibreg_all_objects(void);
 
 /* Returns the library of a SONAME, or null. */
@@ -39,7 +39,7 @@ const struct rlibreg_object *rlibreg_object_named(const char *soname);
 const struct rlibreg_object *rlibreg_object_at(uintptr_t address);
 
 /* Returns the value of an object's first entry with a tag in its dynamic section, or `otherwise`.
- * If the value is an address, the object's base isn't added to it. */
+ * If the value is an address, it doesn't include the object's base. */
 uint64_t rlibreg_tag_of(const struct rlibreg_object *, int64_t tag, uint64_t otherwise);
 
 #pragma GCC visibility pop

@@ -61,8 +61,8 @@ void operator delete(void *memory, align_val_t, const nothrow_t &) noexcept { fr
 void operator delete[](void *memory, align_val_t, const nothrow_t &) noexcept { free(memory); }
 
 extern "C" {
-/* A guard's first byte says that the object is made, and its second byte says that a thread makes
- * it. */
+/* A guard's first byte states that the object has been made, and its second byte states that a
+ * thread is making it. */
 int __cxa_guard_acquire(char *guard) {
     while (!__atomic_load_n(guard, __ATOMIC_ACQUIRE)) {
         if (!__atomic_exchange_n(guard + 1, 1, __ATOMIC_ACQ_REL)) return 1;

@@ -41,8 +41,8 @@ static uint32_t plan_preload(rlibreg *it, const void *asked, size_t length, uint
                                 it->text, it->text_room, &it->answer);
 }
 
-/* Plans a change, in a buffer that is as large as the plan needs. Returns a status. The caller
- * frees the plan, which is null if the status isn't 0. */
+/* Plans a change, in a buffer of the size that the plan needs. Returns a status. The caller frees
+ * the plan, which is null if the status isn't 0. */
 static uint32_t make_plan(rlibreg *it, plan_call *call, const void *asked, size_t length,
                           uint8_t **plan) {
     size_t room = (length / SECTOR + 1 + SMALL_PLAN) * (STEP_NUMBER + SECTOR);
@@ -66,8 +66,8 @@ static int is_stream(const rlibreg *it) {
     return fstat(it->file.fd, &found) || rlibreg_stream_of_file(&found) >= 0;
 }
 
-/* Plans a change and carries it out. Returns a status. Checks the file before and after the change:
- * it may have been shortened, or another file may have taken its place. */
+/* Plans a change and carries it out. Returns a status. Checks the file before and after the change,
+ * because it may have been shortened or replaced. */
 static uint32_t change_file(rlibreg *it, plan_call *call, const void *asked, size_t length) {
     uint8_t *plan;
     uint32_t status = rlibreg_refuse(it);
@@ -133,8 +133,8 @@ static uint32_t plan_update(rlibreg *it, const void *asked, size_t length, uint8
                                &it->answer);
 }
 
-/* Returns the maximum number of bytes that an update writes besides those for which each plan has
- * room. For each change, these are its bytes, the rest of their last sector, and an entry. */
+/* Returns the maximum number of bytes that an update writes in addition to those for which each
+ * plan has room: for each change, its bytes, the rest of their last sector, and an entry. */
 static size_t written_by(const struct update *it) {
     return it->length + it->count * 2 * SECTOR;
 }

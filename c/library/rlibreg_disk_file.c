@@ -13,7 +13,7 @@
 #include <sys/mount.h>
 #include <unistd.h>
 
-/* ---- The locks of this process, including those that it waits for */
+/* ---- The locks of this process, including those for which it waits */
 
 static struct disk_file *enlisted;
 static pthread_mutex_t guard = PTHREAD_MUTEX_INITIALIZER; /* protects the list */
@@ -26,9 +26,9 @@ static void free_list(void) {
     pthread_mutex_unlock(&guard);
 }
 
-/* Empties the list in a child of fork, whatever another thread was doing in the parent. Closes the
- * files whose locks such a thread was waiting for: otherwise the thread's marks would stay with
- * these files (rlibreg_turn.h). */
+/* Empties the list in a child of fork. Another thread of the parent may have been changing the
+ * list. Closes the files for whose locks such a thread was waiting: otherwise the thread's marks
+ * would stay with these files (rlibreg_turn.h). */
 static void empty_list(void) {
     rlibreg_process_end();
     for (struct disk_file *it = enlisted; it; it = it->next) {
@@ -41,8 +41,8 @@ static void empty_list(void) {
     free_list();
 }
 
-/* The error because of which forks aren't watched, or 0. A process whose forks could go unnoticed
- * opens no disk. */
+/* The reason why forks aren't watched, an errno, or 0 if they are watched. A process whose forks
+ * could go unnoticed opens no disk. */
 static int why_unwatched; /* protected by `guard` after the first call */
 
 static void watch_forks(void) {
@@ -63,7 +63,7 @@ static int excludes(const struct disk_file *one, const struct disk_file *other) 
            (one->is_alone || other->is_alone);
 }
 
-/* Returns a file whose lock `thread` waits for, or null. Within the search number `search`, returns
+/* Returns a file for whose lock `thread` waits, or null. During the search number `search`, returns
  * each file only once. */
 static struct disk_file *waiting(uint64_t thread, unsigned search) {
     struct disk_file *it = enlisted;
@@ -72,8 +72,8 @@ static struct disk_file *waiting(uint64_t thread, unsigned search) {
     return it;
 }
 
-/* Returns whether a wait for the lock of `wanted` is a wait for `thread`: either `thread` has the
- * lock, or the thread that has the lock waits for `thread` in turn. */
+/* Returns whether a wait for the lock of `wanted` is a wait for `thread`: `thread` has the lock, or
+ * the thread that has the lock waits for `thread` in turn. */
 static int waits_for(const struct disk_file *wanted, uint64_t thread, unsigned search) {
     for (struct disk_file *it = enlisted; it; it = it->next) {
         if (it->is_waiting || !excludes(wanted, it)) continue;
@@ -84,8 +84,8 @@ static int waits_for(const struct disk_file *wanted, uint64_t thread, unsigned s
     return 0;
 }
 
-/* Puts a file into the list. The caller has locked `guard`. If the thread would wait for itself,
- * leaves the list as it is and returns RLIBREG_LOCKED. */
+/* Puts a file into the list. The caller must have locked `guard`. If the thread would wait for
+ * itself, leaves the list unchanged and returns RLIBREG_LOCKED. */
 static uint32_t put_into_list(struct disk_file *it, const struct stat *found, unsigned flags,
                               int is_waiting) {
     static unsigned searches;
@@ -146,7 +146,8 @@ static void strike(struct disk_file *it) {
 
 static int open_flags(unsigned flags) {
     int access = flags & RLIBREG_READ_WRITE ? O_RDWR : O_RDONLY;
-    return access | O_CLOEXEC | O_NOCTTY | O_NONBLOCK; /* the opening of a pipe doesn't wait */
+    return access | O_CLOEXEC | O_NOCTTY | O_NONBLOCK; /* without this flag, the opening of a
+                                                        * pipe would wait */
 }
 
 int rlibreg_flock(int fd, int kind) {
@@ -154,8 +155,8 @@ int rlibreg_flock(int fd, int kind) {
 }
 
 /* Locks a file. Returns 0, or -1 with errno. The system's udev locks a device for a moment after
- * each writer has closed it. So a change to a device tries for a moment, even without
- * RLIBREG_WAIT. */
+ * each writer has closed it. For this reason, a change to a device retries for a moment, even
+ * without RLIBREG_WAIT. */
 static int lock(const struct disk_file *it, int is_device, unsigned flags) {
     int64_t until = flags & RLIBREG_WAIT ? it->until : 0;
     if (!(flags & RLIBREG_READ_WRITE)) return rlibreg_lock_shared(it->fd, until);
@@ -186,16 +187,16 @@ static uint32_t open_and_lock(struct disk_file *it, const char *path, unsigned f
     return rlibreg_disk_file_lock(it, found, flags);
 }
 
-/* Returns whether `path` still names the file that was locked: another file may have replaced it
- * meanwhile. */
+/* Returns whether `path` still names the file that was locked, because another file may have
+ * replaced it. */
 static int is_still_there(const char *path, const struct stat *locked) {
     struct stat now;
     return !stat(path, &now) && now.st_dev == locked->st_dev && now.st_ino == locked->st_ino;
 }
 
-/* Opens a device once more for a change, exclusively. The system refuses this if the device is
- * mounted, or in use in another way. The caller has the lock already, so two users of the registry
- * never meet here. Returns a status. */
+/* Opens a device again for a change, exclusively. The system refuses this if the device is mounted,
+ * or in use in another way. The caller already has the lock, so two users of the registry never
+ * meet here. Returns a status. */
 static uint32_t claim(struct disk_file *it, const char *path, unsigned flags,
                       const struct stat *locked) {
     struct stat found;
@@ -203,8 +204,8 @@ static uint32_t claim(struct disk_file *it, const char *path, unsigned flags,
     if (!(flags & RLIBREG_READ_WRITE) || !S_ISBLK(locked->st_mode)) return RLIBREG_DONE;
     it->claim = rlibreg_open_apart(AT_FDCWD, path, open_flags(flags) | O_EXCL);
     if (it->claim < 0 || fstat(it->claim, &found)) return RLIBREG_SYSTEM;
-    ioctl(it->claim, BLKROGET, &is_read_only); /* a read-only device can be opened for writing, but
-                                                * can't be written */
+    ioctl(it->claim, BLKROGET, &is_read_only); /* a read-only device can be opened for writing,
+                                                * but can't be written */
     if (!S_ISBLK(found.st_mode) || found.st_rdev != locked->st_rdev) return RLIBREG_LOCKED;
     errno = EROFS;
     return is_read_only ? RLIBREG_SYSTEM : RLIBREG_DONE;
@@ -224,9 +225,9 @@ static uint32_t open_locked(struct disk_file *it, const char *path, unsigned fla
     return RLIBREG_LOCKED;
 }
 
-/* Syncs a file, and makes the medium and the system agree on its roots. Returns 0, or -1 with
- * errno. If the file is open only for reading, and its file system has no syncs because it can't be
- * written (EINVAL), there is nothing to sync. A file system that a failure has made read-only
+/* Syncs a file, and makes the roots on the medium and those that the system shows equal. Returns 0,
+ * or -1 with errno. If the file is open only for reading, and its file system has no syncs because
+ * it is read-only (EINVAL), there is nothing to sync. A file system that a failure made read-only
  * returns EROFS: it has pages that the medium doesn't have. */
 static int sync_file(int fd, unsigned flags) {
     if (!fsync(fd)) return rlibreg_meet_front(fd, fsync);

@@ -42,8 +42,8 @@ static uint32_t format_file(rlibreg *it, const char *path, size_t length, unsign
     return make_registry(it);
 }
 
-/* Makes a registry on a new file, which gets its name once all of it is on the medium. Returns a
- * status. */
+/* Makes a registry on a new file, which gets its name when the whole file is on the medium. Returns
+ * a status. */
 static uint32_t format_new(rlibreg *it, const char *path, size_t length, unsigned flags) {
     struct new_disk new = { .folder = -1 };
     struct place place;

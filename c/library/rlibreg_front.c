@@ -1,11 +1,11 @@
 /* Compares the roots that the system shows, which are the first 1,024 bytes of a disk, with those
  * on the medium. The calls over a file and the programs call this when they open a disk.
  *
- * Linux treats a page that it couldn't write back as written, and shows it. So the roots are read
- * twice, after the sync of an opening and before any map: from the system's memory and past it
- * (O_DIRECT). If the two are equal, nothing else is done. As long as the lock is held, no process
- * that asks for it can make them differ, whatever the system drops from its memory and reads
- * again. */
+ * Linux treats a page that it couldn't write back as written, and shows it. For this reason the
+ * roots are read twice, after the sync of an opening and before any map: from the system's memory
+ * and past it (O_DIRECT). If the two are equal, nothing else is done. As long as the lock is held,
+ * no process that requests the lock can make them differ, even if the system drops pages from its
+ * memory and reads them again. */
 #define _GNU_SOURCE
 #include "rlibreg_disk_file.h"
 
@@ -24,20 +24,20 @@
 #include <linux/stat.h>
 #endif
 
-/* The system keeps a file in memory in pieces of one page to 2 MiB. It drops a piece only if all of
- * the piece lies in the range to drop. A read past the system's memory reads a block of 4,096
+/* The system has a file in memory in pieces of one page to 2 MiB. It drops a piece only if the
+ * whole piece lies in the range to drop. A read past the system's memory reads a block of 4,096
  * bytes, because there are devices with sectors of this size. */
 enum { SECTOR = 512, ROOTS = 2 * SECTOR, BLOCK = 4096, GREATEST_PIECE = 2 << 20 };
 
-/* The maximum number of tries to make the system drop the roots, if other processes use them. The
- * tries are five milliseconds apart. */
+/* The maximum number of attempts to make the system drop the roots, if other processes use them.
+ * There are five milliseconds between two attempts. */
 enum { FORGET_TRIES = 40 };
 
 enum comparison {
     EQUAL,
     DIFFERENT,
     UNKNOWN, /* reads past the system's memory fail, or also return bytes of some memory */
-    FAILED   /* errno says why */
+    FAILED   /* errno has the reason */
 };
 
 struct front {
@@ -62,10 +62,10 @@ static int is_encoded(int fd) {
            found.stx_attributes & encoded;
 }
 
-/* Reads the first block past the system's memory, through the file's own descriptor. So the read
- * needs neither the file's path, which may name another file by now, nor /proc. Writes to the
- * buffer first, because btrfs fills pages that were never written from its memory. Returns EQUAL if
- * the roots were read. */
+/* Reads the first block past the system's memory, through the file's own descriptor. The read needs
+ * neither /proc nor the file's path, which may name another file now. Writes to the buffer first,
+ * because btrfs fills pages that were never written from its memory. Returns EQUAL if the roots
+ * were read. */
 static enum comparison read_medium(struct front *it) {
     memset(it->medium, 0, BLOCK);
     if (fcntl(it->fd, F_SETFL, it->flags | O_DIRECT)) return UNKNOWN;
@@ -80,21 +80,21 @@ static enum comparison read_medium(struct front *it) {
 static enum comparison compare(struct front *it) {
     ssize_t length = pread(it->fd, it->kept, BLOCK, 0);
     if (length < 0) return FAILED;
-    if (length < BLOCK) return EQUAL; /* no registry is that short */
+    if (length < BLOCK) return EQUAL; /* no registry is so short */
     enum comparison is = read_medium(it);
     if (is == EQUAL && memcmp(it->kept, it->medium, ROOTS)) return DIFFERENT;
     return is == EQUAL && it->is_blind ? UNKNOWN : is;
 }
 
-/* Returns whether the system may keep the first page of a map. If the user neither owns the file
- * nor may write it, mincore always reports the page as kept. */
+/* Returns whether the system may still have the first page of a map in memory. If the user neither
+ * owns the file nor may write it, mincore always reports the page as being in memory. */
 static int may_be_kept(void *map) {
     unsigned char kept;
     return map == MAP_FAILED || mincore(map, 1, &kept) || kept & 1;
 }
 
-/* Makes the system drop a growing part of the file's front, until the first page is gone. The map
- * allows no access, so it holds no page, even in a process that locks its memory. */
+/* Makes the system drop a growing part of the file's front, until it has dropped the first page.
+ * The map allows no access, so it holds no page, even in a process that locks its memory. */
 static void forget(int fd) {
     void *map = mmap(NULL, 1, PROT_NONE, MAP_SHARED, fd, 0);
     for (off_t size = BLOCK; size <= GREATEST_PIECE; size *= 2) {

@@ -14,8 +14,8 @@ struct room {
     size_t objects, segments, bytes;
 };
 
-/* Asks the system for large pages if there is much room: they are faster if most of the room is
- * used. The beginning gets no large pages, so that a small image needs little memory. */
+/* Requests large pages from the system if there is much room, because they are faster if most of
+ * the room is used. Requests none for the beginning, so that a small image needs little memory. */
 static void ask_for_large_pages(uint8_t *bytes, size_t room) {
     const uintptr_t large = 2 << 20, small_image = 4 << 20, much = 32 << 20;
     uintptr_t from = ((uintptr_t)bytes + small_image) / large * large;
@@ -56,12 +56,13 @@ static uint32_t bind_into(rlibreg *it, const uint8_t *disk, const struct asked *
                         it->text, it->text_room, &it->answer);
 }
 
-/* Binds a program against the bytes of a disk. At first there is room for `first_bytes` bytes of
- * the image. Returns a status. */
+/* Binds a program with the bytes of a disk. At first there is room for `first_bytes` bytes of the
+ * image. Returns a status. */
 static uint32_t bind_over(rlibreg *it, const uint8_t *disk, const struct asked *what,
                           rlibreg_image *out, size_t first_bytes) {
     struct room room = { FIRST_OBJECTS, FIRST_SEGMENTS, first_bytes };
-    if (!make_first_room(out, &room)) room = (struct room){ 0 }; /* the bind reports the sizes */
+    if (!make_first_room(out, &room)) room = (struct room){ 0 }; /* if there are no buffers, the
+                                                                  * bind still reports the sizes */
     for (;;) {
         uint32_t status = bind_into(it, disk, what, out, room);
         int again = rlibreg_text_was_cut(it) || status == RLIBREG_BUFFER_TOO_SMALL;

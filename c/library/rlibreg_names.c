@@ -1,7 +1,7 @@
 /* Finds out whether a path names a file, and whether the medium has the names of a folder.
  *
- * ext4's sync of a folder succeeds even if the system couldn't write the journal before, and then a
- * power cut undoes the names. But no change begins on such a journal (EROFS), not even the removal
+ * ext4's sync of a folder succeeds even if the system couldn't write the journal before; a power
+ * cut then undoes the names. But no change begins on such a journal (EROFS), not even the removal
  * of an attribute that doesn't exist. On any other journal this removal returns ENODATA, and writes
  * nothing. Other errors show nothing about the journal: the file system has no attributes, or the
  * process has no permission. syncfs(2) reports the journal's failure too, but only once, and it

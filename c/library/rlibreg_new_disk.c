@@ -71,9 +71,9 @@ static uint32_t lock_alone(int fd) {
     return errno == EWOULDBLOCK ? RLIBREG_LOCKED : RLIBREG_SYSTEM;
 }
 
-/* Removes the other name if a process that has ended left it. With RLIBREG_WAIT it waits, until the
- * moment `until`, for a process that is making the disk. Returns a status. Doesn't write the file:
- * it may be a finished registry, which has its own name too. */
+/* Removes the other name if a process that has ended left it. With RLIBREG_WAIT, waits until the
+ * moment `until` for a process that is making the disk. Returns a status. Doesn't write the file,
+ * because it may be a finished registry, which also has its own name. */
 static uint32_t take_leftover(const struct new_disk *it, unsigned flags, int64_t until) {
     struct disk_file left = NO_DISK_FILE;
     struct stat found;
@@ -100,7 +100,7 @@ static uint32_t lock_made(const struct new_disk *it, int *fd) {
     if (!status && is_other_of(it, *fd)) return RLIBREG_DONE;
     if (status == RLIBREG_SYSTEM) {
         int why = errno;
-        take_other(it, *fd); /* no process can have its lock */
+        take_other(it, *fd); /* the file can't be locked, so no other process has its lock */
         errno = why;
     }
     close_quietly(*fd);
@@ -108,8 +108,7 @@ static uint32_t lock_made(const struct new_disk *it, int *fd) {
     return status == RLIBREG_LOCKED ? RLIBREG_DONE : status;
 }
 
-/* Refuses a disk that exists by now, because another process has made it: RLIBREG_SYSTEM with
- * EEXIST. */
+/* Refuses a disk that another process has made in the meantime: RLIBREG_SYSTEM with EEXIST. */
 static uint32_t refuse_made(const struct new_disk *it) {
     struct stat found;
     if (look_at(it, it->name, &found)) return RLIBREG_DONE;
@@ -175,8 +174,8 @@ static int lacks_links(void) {
     return errno == EPERM || errno == EOPNOTSUPP || errno == ENOSYS || errno == EMLINK;
 }
 
-/* Renames the file from the other name to its own, if nothing has that name. Returns 0, or -1 with
- * errno. */
+/* Renames the file from the other name to its own name, if no file has that name. Returns 0, or -1
+ * with errno. */
 static int rename_file(const struct new_disk *it) {
     struct stat found;
     const long no_replace = 1; /* musl has neither the call nor its flag */
@@ -191,14 +190,14 @@ static int rename_file(const struct new_disk *it) {
 
 uint32_t rlibreg_new_disk_name(const struct new_disk *it, const struct disk_file *file) {
     if (!is_other_of(it, file->fd)) {
-        errno = EAGAIN; /* a process that doesn't ask for the lock has removed the name */
+        errno = EAGAIN; /* a process that ignores the lock has removed the name */
         return RLIBREG_SYSTEM;
     }
     if (!linkat(it->folder, it->other, it->folder, it->name, 0)) {
         if (unlinkat(it->folder, it->other, 0)) return RLIBREG_DEVICE;
     } else if (!lacks_links() || rename_file(it)) {
         return RLIBREG_SYSTEM;
-    } else if (fsync(file->fd)) { /* FAT keeps a file's length beside its name */
+    } else if (fsync(file->fd)) { /* FAT stores a file's length with its name */
         return RLIBREG_DEVICE;
     }
     return bring_names(it->folder) ? RLIBREG_DEVICE : RLIBREG_DONE;

@@ -29,9 +29,9 @@ static int write_all(int fd, const uint8_t *from, size_t length, off_t at) {
 }
 
 /* Writes the sector of the step at the front of a plan. The same write includes the sectors of the
- * following steps, as long as each sector follows the one before it. For that, the bytes of the
- * sectors are moved together. Returns the number of bytes that these steps take in the plan, or 0
- * if the write fails. */
+ * following steps, as long as each sector follows the previous one. To do so, moves the bytes of
+ * the sectors together. Returns the number of bytes that these steps take in the plan, or 0 if the
+ * write fails. */
 static size_t write_run(int fd, uint8_t *plan, size_t length) {
     uint32_t first = number_at(plan), next = first + 1;
     size_t at = STEP_NUMBER + SECTOR, bytes = SECTOR;
@@ -43,8 +43,8 @@ static size_t write_run(int fd, uint8_t *plan, size_t length) {
     return write_all(fd, plan + STEP_NUMBER, bytes, (off_t)first * SECTOR) ? 0 : at;
 }
 
-/* Checks the file's length before each step: a write past the end of a shortened file would hide
- * that it was shortened. */
+/* Checks the file's length before each step, because a write past the end of a shortened file would
+ * hide that it was shortened. */
 int rlibreg_carry_out(const struct disk_file *file, uint8_t *plan, size_t length) {
     for (size_t at = 0; at < length;) {
         size_t done = STEP_NUMBER;

@@ -30,8 +30,8 @@ static union {
     uint8_t page[PAGE];
 } drawn;
 
-/* Draws a number that no process from which this one descends has drawn. If two threads draw at
- * once, both return the first one's number. */
+/* Draws a number that differs from those of all processes from which this one descends. If two
+ * threads draw at the same time, both return the first thread's number. */
 static uint64_t draw(void) {
     static _Atomic uint64_t last;
     uint64_t number = atomic_load(&drawn.number);

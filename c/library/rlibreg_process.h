@@ -8,11 +8,10 @@
 /* A process. If the number is 0, it is no process. */
 struct process {
     pid_t number;
-    uint64_t drawn; /* differs from that of each process from which this one descends */
+    uint64_t drawn; /* differs from the number of each process from which this one descends */
 };
 
-/* Asks the kernel to clear the drawn number in children. Called before the first of the calls
- * below. */
+/* Asks the kernel to clear the drawn number in children. Call this before the functions below. */
 void rlibreg_process_begin(void);
 
 /* Records in a child of fork that the child isn't the process that its parent is. */

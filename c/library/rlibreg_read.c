@@ -7,8 +7,8 @@
 
 enum { FIRST_FILE = 1 << 16 };
 
-/* Lists the registry. Puts the listing into new buffers, for `entries` entries and `names` bytes of
- * names. Returns a status. */
+/* Lists the libraries and the preloads. Puts the listing into new buffers, for `entries` entries
+ * and `names` bytes of names. Returns a status. */
 static uint32_t list(rlibreg *it, rlibreg_listing *out, size_t entries, size_t names) {
     out->entries = malloc(entries * sizeof *out->entries);
     out->names = malloc(names);
@@ -53,8 +53,8 @@ void *rlibreg_fitting(void *block, size_t bytes) {
 }
 
 /* Makes a request, whose result is never empty. Returns a status, and the result in `bytes`,
- * followed by a byte 0. The first buffer has room for `first` bytes or, if that much memory is
- * refused, for a small file. */
+ * followed by a byte 0. The first buffer has room for `first` bytes or, if this memory is refused,
+ * for a small file. */
 static uint32_t give(rlibreg *it, give_call *call, struct asked what, size_t first, void **bytes,
                      size_t *length) {
     *bytes = NULL;

@@ -1,5 +1,5 @@
-/* The calls over a file, in C over the calls over bytes: what their parts share. rlibreg.h is the
- * manual of the calls. Nothing here is for users. */
+/* The calls over a file, in C over the calls over bytes: the declarations that their parts share.
+ * rlibreg.h is the manual of the calls. Users don't need this file. */
 #ifndef RLIBREG_REGISTRY_H
 #define RLIBREG_REGISTRY_H
 
@@ -12,13 +12,13 @@ enum { SECTOR = 512, STEP_NUMBER = 4, FIRST_BYTES = 16 << 20 };
 struct rlibreg {
     struct disk_file file;
     struct place place; /* path of the file, if it was opened for changes */
-    int may_change; /* whether the file was opened for changes */
+    int may_change; /* whether the file is open for changes */
     int has_failed; /* whether a write or a sync failed */
     int limit;      /* milliseconds to wait for a lock; less than 0: without a limit */
     char *text;     /* text of the last answer, followed by a byte 0 */
     size_t text_room;
     rlibreg_answer answer;
-    int why; /* errno at the last answer that no call over bytes made */
+    int why; /* errno of the last answer, if no call over bytes made it */
 };
 
 /* ---- Cancellation (rlibreg_cancellation.c) */
@@ -30,8 +30,7 @@ void rlibreg_end_call(int before);
 
 /* ---- Answers (rlibreg_answer.c) */
 
-/* Sets the answer of a call that made no call over bytes, with `status` and `text`. Returns
- * `status`. */
+/* Sets the answer of a call that made no call over bytes: `status` and `text`. Returns `status`. */
 uint32_t rlibreg_say(rlibreg *it, uint32_t status, const char *text);
 
 /* Set the answers RLIBREG_SYSTEM and RLIBREG_OUT_OF_MEMORY, and return them. */
@@ -39,24 +38,24 @@ uint32_t rlibreg_say_system(rlibreg *it);
 uint32_t rlibreg_say_memory(rlibreg *it);
 
 /* Ends the text of the last call with a byte 0. If the text was cut, makes the buffer larger and
- * returns 1: the call has to be made again. If there is no memory for a larger buffer, the text
- * stays cut. */
+ * returns 1, and the caller has to repeat the call. If there is no memory for a larger buffer, the
+ * text stays cut. */
 int rlibreg_text_was_cut(rlibreg *it);
 
 /* ---- The file (rlibreg_file.c) */
 
-/* Opens a file whose lock is waited for until the moment that rlibreg_begin_waiting has set.
+/* Opens a file. Waits for the file's lock until the moment that rlibreg_begin_waiting has set.
  * Returns a status. */
 uint32_t rlibreg_open_file(rlibreg *it, const char *path, unsigned flags);
 
-/* Sets the moment until which a call waits for a lock. */
+/* Sets the moment at which a call stops waiting for a lock. */
 void rlibreg_begin_waiting(rlibreg *it);
 
-/* Closes the file, and leaves errno as it is. */
+/* Closes the file, and leaves errno unchanged. */
 void rlibreg_let_go(rlibreg *it);
 
-/* Returns the status with which each call on this struct is refused, or 0. If the file was
- * shortened, its map can't be read: that would end the process. */
+/* Returns the status with which each call of this struct is refused, or 0. If the file was
+ * shortened, its map must not be read, because that would end the process. */
 uint32_t rlibreg_refuse(rlibreg *it);
 
 /* Records that a write, a sync or a check of the file has failed. Returns RLIBREG_DEVICE. */
@@ -68,8 +67,8 @@ uint32_t rlibreg_fail(rlibreg *it);
  * errno. The plan must not be used again. */
 int rlibreg_carry_out(const struct disk_file *file, uint8_t *plan, size_t length);
 
-/* Returns the bytes of the disk as they are after a plan, or null if memory is refused. The caller
- * unmaps them. */
+/* Returns the bytes of the disk after a plan, or null if memory is refused. The caller unmaps
+ * them. */
 uint8_t *rlibreg_copy_after(const struct disk_file *file, const uint8_t *plan, size_t length);
 
 /* ---- Changes (rlibreg_change.c) */

@@ -1,5 +1,5 @@
-/* Keeps a disk from being a standard stream of the process. The calls over a file and the loader
- * call this. */
+/* Prevents a disk from becoming a standard stream of the process. The calls over a file and the
+ * loader call this. */
 #define _GNU_SOURCE
 #include "rlibreg_disk_file.h"
 
@@ -10,8 +10,8 @@
 /* The standard streams have the numbers below this one. */
 enum { STREAMS = 3 };
 
-/* Opens a file to which nothing can be written. Early in a system's start there may be no devices
- * yet. */
+/* Opens a file to which nothing can be written. Early in a system's start, the devices may not
+ * exist yet. */
 static int open_nothing(void) {
     int fd = open("/dev/null", O_RDONLY | O_NOCTTY);
     return fd < 0 ? open("/", O_RDONLY | O_DIRECTORY) : fd;
@@ -59,6 +59,6 @@ int rlibreg_stream_of_file(const struct stat *file) {
 
 int rlibreg_stream_of(const char *path) {
     struct stat found;
-    fill_streams(); /* if this fails, output goes nowhere */
+    fill_streams(); /* if this fails, output is lost */
     return stat(path, &found) ? -1 : rlibreg_stream_of_file(&found);
 }

@@ -22,7 +22,7 @@ int64_t rlibreg_moment_in(int64_t milliseconds) {
     return now() + milliseconds * MILLISECOND;
 }
 
-/* Sleeps for a moment, but not past `until`. A signal may end the sleep: the caller looks at the
+/* Sleeps for a moment, but not past `until`. A signal may end the sleep, so the caller reads the
  * clock. */
 static void nap(int64_t until) {
     int64_t left = until - now();
@@ -59,15 +59,15 @@ static void clear(int fd, enum mark first, int count) {
 }
 
 /* Returns whether another open file has set a mark. A process that may only read the file can lock
- * the mark's byte as readers do, but that doesn't set the mark. */
+ * the mark's byte in the way of a reader, but this doesn't set the mark. */
 static int is_set(int fd, enum mark which) {
     struct flock it = { .l_type = F_RDLCK, .l_len = 1 };
     return !over_mark(fd, F_OFD_GETLK, which, &it) && it.l_type == F_WRLCK;
 }
 
 /* Returns whether a file can be marked. Some file systems, such as NFS, SMB, 9p, AFS and Lustre,
- * implement a lock of flock as a lock of all bytes. On these the lock and the marks would exclude
- * each other. */
+ * implement a lock of flock as a lock of all bytes. On these file systems, the lock and the marks
+ * would exclude each other. */
 static int has_marks(int fd) {
     static const uint32_t without[] = { 0x6969,     0x517b,     0xff534d42, 0xfe534d42,
                                         0x01021997, 0x5346414f, 0x6b414653, 0x0bd00bd0 };
@@ -80,13 +80,13 @@ static int has_marks(int fd) {
 
 /* ---- The lock */
 
-/* Returns whether a refused lock may be free later. */
+/* Returns whether a refused lock may become free later. */
 static int may_be_had(void) {
     return errno == EWOULDBLOCK || errno == EINTR;
 }
 
-/* Tries for a lock until the moment `until`, even if signals come. With RLIBREG_NO_END the system
- * waits for it. Returns 0, or -1 with errno. */
+/* Retries to get a lock until the moment `until`, even if signals come. With RLIBREG_NO_END, lets
+ * the system wait for it. Returns 0, or -1 with errno. */
 static int try_until(int fd, int kind, int64_t until) {
     if (until == RLIBREG_NO_END) return rlibreg_flock(fd, kind);
     while (rlibreg_flock(fd, kind | LOCK_NB)) {
@@ -96,8 +96,8 @@ static int try_until(int fd, int kind, int64_t until) {
     return 0;
 }
 
-/* Gives way, until the moment `until`, to a process that waits for the file's readers to end. A
- * process that already has the exclusive lock isn't waited for. Returns whether the caller gave
+/* Gives way, until the moment `until`, to a process that waits for the file's readers to end.
+ * Doesn't wait for a process that already has the exclusive lock. Returns whether the caller gave
  * way. */
 static int give_way(int fd, int64_t until) {
     int gave_way = 0;
@@ -108,8 +108,8 @@ static int give_way(int fd, int64_t until) {
 int rlibreg_lock_shared(int fd, int64_t until) {
     int64_t end = rlibreg_moment_in(RLIBREG_A_TURN);
     if (until && until < end) end = until;
-    if (has_marks(fd) && give_way(fd, end) && !until) until = end; /* a reader that gave way isn't
-                                                                    * refused at once */
+    if (has_marks(fd) && give_way(fd, end) && !until) until = end; /* a reader that gave way
+                                                                    * isn't refused immediately */
     return try_until(fd, LOCK_SH, until);
 }
 
@@ -122,8 +122,8 @@ static int queue(int fd) {
     return rlibreg_flock(fd, LOCK_EX);
 }
 
-/* Tries for the exclusive lock until the moment `until`, with the mark as soon as no other open
- * file has it. Returns 0, or -1 with errno. */
+/* Retries to get the exclusive lock until the moment `until`, and sets the mark as soon as no other
+ * open file has it. Returns 0, or -1 with errno. */
 static int try_marked(int fd, int64_t until) {
     while (now() < until) {
         set(fd, F_OFD_SETLK, WAITS);

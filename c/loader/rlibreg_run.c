@@ -25,7 +25,7 @@
 #include <malloc.h>
 #endif
 
-/* Number of bytes of stack: the loader needs some 56 KiB, besides what depends on its arguments. */
+/* Number of bytes of stack. The loader needs some 56 KiB, and more for its arguments. */
 enum { STACK = 128 << 10 };
 
 void fail(const char *what) {
@@ -44,8 +44,8 @@ static _Noreturn void bad_words(void) {
     exit(BAD_WORDS);
 }
 
-/* Reads the arguments. Returns the index of DISK. If the program's output would go into DISK, ends
- * the process, and prints no message that would go into DISK. */
+/* Reads the arguments. Returns the index of DISK. If the program's output would be written into
+ * DISK, ends the process, and prints no message that would be written into DISK. */
 static int read_words(struct program *it, struct keeping *keeping, int argc, char **argv) {
     int next, are_good = read_options(it, keeping, argc, argv, &next);
     int stream = next < argc ? rlibreg_stream_of(argv[next]) : -1;
@@ -58,18 +58,19 @@ static int read_words(struct program *it, struct keeping *keeping, int argc, cha
     return next;
 }
 
-/* Prints to standard error what is done with images: `what` or, if it is null, the text of
+/* Prints a message about images to standard error: `what` or, if it is null, the text of
  * `error`. */
 static void say(const struct keeping *it, const char *what, int error) {
     fprintf(stderr, "rlibreg-run: %s: %s\n", it->path, what ? what : strerror(error));
 }
 
-/* Handles SIGBUS. Because the disk is mapped, this signal comes if a sector can't be read, or if
- * the file was shortened. */
+/* Handles SIGBUS, which the system sends if a sector of the mapped disk can't be read, or if the
+ * file was shortened. */
 static void cannot_read(int signal) {
     static const char what[] = "rlibreg-run: the disk can't be read\n";
     (void)signal;
-    if (write(STDERR_FILENO, what, sizeof what - 1) < 0) errno = 0; /* nobody can be informed */
+    if (write(STDERR_FILENO, what, sizeof what - 1) < 0) errno = 0; /* if this fails, there is no
+                                                                     * other way to report it */
     _exit(FAILED);
 }
 
@@ -89,7 +90,7 @@ static void load(struct program *it, struct keeping *keeping, const char *disk) 
     rlibreg_close(registry);
 }
 
-/* Frees the bytes of an image, except for the names of the libraries, which come last. */
+/* Frees the bytes of an image, except for the names of the libraries, which are at the end. */
 static void let_bytes_go(rlibreg_image *it) {
     const rlibreg_object *first = &it->objects[1], *last = &it->objects[it->object_count - 1];
     if (it->object_count > 1) {
@@ -106,8 +107,8 @@ static void let_bytes_go(rlibreg_image *it) {
     it->segments = NULL;
 }
 
-/* Binds the program. If the user has asked for it, keeps the image, before any code of the program
- * runs. */
+/* Binds the program. If the user has requested it (-c), also keeps the image, before any code of
+ * the program runs. */
 static void bind_program(struct program *it, struct keeping *keeping, const char *disk) {
     read_program(it);
     load(it, keeping, disk);
@@ -118,7 +119,7 @@ static void bind_program(struct program *it, struct keeping *keeping, const char
     free(it->bytes);
     let_bytes_go(&it->image);
 #ifdef __GLIBC__
-    malloc_trim(0); /* memory that isn't returned here stays with the program */
+    malloc_trim(0); /* memory that isn't returned to the system here stays with the program */
 #endif
 }
 

@@ -1,4 +1,4 @@
-/* Chooses the base of a program for which the user named none. */
+/* Chooses the base of a program if the user didn't name one. */
 #define _GNU_SOURCE
 #include "rlibreg_run_kernel.h"
 #include "rlibreg_run.h"
@@ -9,7 +9,7 @@
 #define BIG_PAGE ((uint64_t)2 << 20)
 
 /* Returns a number that differs from start to start. It combines both halves of the kernel's random
- * bytes: a C library uses one half for its own secrets, and a process that learns the base must not
+ * bytes. A C library uses one half for its own secrets, and a process that learns the base must not
  * learn anything about that half. */
 static uint64_t random_bits(void) {
     uint64_t halves[2] = { 0 };
@@ -26,9 +26,9 @@ static uint64_t number_of(uint64_t sequence, uint64_t place) {
     return it ^ it >> 31;
 }
 
-/* Each try lies in the lower half of the range of the try before, so an image of any size fits in
- * the end. If no multiple of the unit lies below the end of the range, the returned base is one
- * that the bind refuses. */
+/* Each try lies in the lower half of the range of the previous try, so finally an image of any size
+ * fits. If no multiple of the unit lies below the end of the range, the returned base is one that
+ * the bind refuses. */
 uint64_t base_of_try(const struct program *it, int number) {
     uint64_t unit = unit_of(it) > BIG_PAGE ? unit_of(it) : BIG_PAGE;
     if (unit > END_OF_BASES / 2) return USUAL_BASE;

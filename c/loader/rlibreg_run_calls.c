@@ -52,7 +52,7 @@ static void add_function(struct calls *calls, const struct source *it, int64_t t
     if (has_tag(&it->dynamic, tag, &value)) add_code(calls, it, it->object->base + value, name);
 }
 
-/* Adds the addresses of an array, which are relocated by now. */
+/* Adds the addresses of an array, which have already been relocated. */
 static void add_array(struct calls *calls, const struct source *it, int64_t tag, int64_t size_tag,
                       const char *name) {
     uint64_t value, size = 0, room = 0, address;
@@ -83,8 +83,8 @@ static void add_finalizers(struct program *it, size_t number) {
 
 /* Returns the number of the library that is initialized before everything else, because of its
  * DF_1_INITFIRST. If several libraries have this flag, returns the last of them in load order, as
- * glibc does. The library is finalized in its usual place. If no library has the flag, returns 0,
- * which is the number of the program. */
+ * glibc does. The library is finalized in its usual place. Returns 0, the number of the program, if
+ * no library has the flag. */
 static size_t first_of_all(const struct program *it) {
     for (size_t i = it->image.object_count; i-- > 1;) {
         uint64_t flags;

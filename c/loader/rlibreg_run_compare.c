@@ -1,4 +1,4 @@
-/* Compares what a kept image was bound from with the program and the disk as they are now. */
+/* Compares the sources of a kept image with the program and the disk as they are now. */
 #define _GNU_SOURCE
 #include "rlibreg_run_kernel.h"
 #include "rlibreg_run_kept.h"
@@ -6,14 +6,14 @@
 #include <errno.h>
 #include <sys/mman.h>
 
-/* The number of bytes that are read at once. */
+/* The maximum number of bytes that one call reads. */
 enum { AT_ONCE = 16 << 10 };
 
 #ifndef MADV_POPULATE_READ /* Linux 5.14 */
 #define MADV_POPULATE_READ 22
 #endif
 
-/* A read ends before the bytes that can't be read, and the next read returns the error. */
+/* A read that meets unreadable bytes ends before them, and the next read returns the error. */
 int read_exactly(int fd, void *to, uint64_t length, uint64_t at) {
     int64_t count = 1;
     for (uint64_t done = 0; done < length && count > 0; done += (uint64_t)count) {
@@ -25,9 +25,9 @@ int read_exactly(int fd, void *to, uint64_t length, uint64_t at) {
 
 /* ---- The image's pages */
 
-/* Reads all pages of a map of the kept file, which begins at the offset `from` of the file. So an
- * error is found here, and doesn't end the process by a signal later. A kernel before 5.14 has no
- * such call: then the bytes are read from the file once more. */
+/* Reads all pages of a map of the kept file, which begins at offset `from` of the file. In this
+ * way, an error is found here, and doesn't end the process by a signal later. A kernel before 5.14
+ * doesn't have this call; then the bytes are read from the file again. */
 static int read_map(uint64_t map, uint64_t length, int kept, uint64_t from) {
     uint8_t bytes[AT_ONCE];
     int error = kernel_advise(map, length, MADV_POPULATE_READ);
@@ -40,7 +40,7 @@ static int read_map(uint64_t map, uint64_t length, int kept, uint64_t from) {
     return 0;
 }
 
-/* Reads the pages of the image that stretches are compared with. */
+/* Reads the pages of the image with which stretches are compared. */
 static int read_pages(const struct kept_file *it, int kept) {
     const struct counts *counts = &it->head->counts;
     const struct stretch *one = it->stretches, *end = one + counts->of_program + counts->of_disk;
@@ -54,10 +54,10 @@ static int read_pages(const struct kept_file *it, int kept) {
     return other;
 }
 
-/* ---- What the image was bound from */
+/* ---- The sources of the image */
 
-/* Bytes of an open file that were read at once. A program or a disk is read, not mapped, because
- * other processes may shorten it. The system copies faster to bytes that begin with a line of the
+/* Bytes of an open file that one call read. A program or a disk is read, not mapped, because other
+ * processes may shorten it. The system copies faster to bytes that begin with a line of the
  * processor's cache. */
 enum { CACHE_LINE = 64 };
 struct window {
@@ -66,9 +66,9 @@ struct window {
     _Alignas(CACHE_LINE) uint8_t bytes[AT_ONCE];
 };
 
-/* Moves a window to the offset `at`, unless the window already has that byte. Reads nothing at or
- * after the offset `end`. A window that isn't the last of a row ends where a page of the file ends,
- * so no page is read in two parts. */
+/* Moves a window to offset `at`, unless the window already has that byte. Reads nothing at or after
+ * offset `end`. A window that isn't the last of a row ends where a page of the file ends, so that
+ * no page is read in two parts. */
 static int move_window(struct window *it, uint64_t at, uint64_t end) {
     if (it->from <= at && at < it->to) return 0;
     uint64_t most = at / PAGE * PAGE + AT_ONCE;
@@ -112,8 +112,8 @@ static int compare_front(struct comparison *it, struct stretch *one) {
     return 0;
 }
 
-/* Returns the offset at which a row of stretches ends. In a row, each stretch begins where the one
- * before ends. */
+/* Returns the offset at which a row of stretches ends. In a row, each stretch begins where the
+ * previous one ends. */
 static uint64_t end_of_row(const struct stretch *it, const struct stretch *end) {
     uint64_t at = it->at;
     for (; it < end && it->at == at; it++) at += it->length;
@@ -138,9 +138,9 @@ static int compare_program(const struct program *program, int kept, const struct
     return compare_stretches(&comparison, it->stretches, it->head->counts.of_program);
 }
 
-/* Compares what an image was bound from with a disk. Takes no lock: as long as the disk has the
- * same roots, no change writes to what they list. So the roots are read before the comparison, for
- * the key, and after it. */
+/* Compares the sources of an image with a disk. Takes no lock: as long as the disk has the same
+ * roots, no change writes to the sectors that they list. For this reason the roots are read before
+ * the comparison, for the key, and after it. */
 static int compare_disk(int disk, int kept, const struct kept_file *it) {
     const struct counts *counts = &it->head->counts;
     struct comparison comparison;

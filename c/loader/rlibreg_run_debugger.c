@@ -9,7 +9,7 @@
 /* musl's header doesn't declare `_DYNAMIC`. */
 extern ElfW(Dyn) _DYNAMIC[] __attribute__((visibility("hidden")));
 
-/* The data that a debugger is shown. The first three fields are used as long as no C library has a
+/* The data that a debugger reads. The first three fields are used as long as no C library has a
  * list. */
 struct told {
     struct r_debug list;
@@ -23,7 +23,7 @@ size_t room_of_list(const struct program *it) {
 }
 
 /* A debugger sets a breakpoint at this address, and reads the list when the breakpoint is reached.
- * If nothing has run yet, the debugger finds the function by its name. */
+ * Before any code has run, the debugger finds the function by its name. */
 __attribute__((noinline)) void r_debug_state(void);
 void r_debug_state(void) {
     __asm__ volatile("");
@@ -35,14 +35,14 @@ static void tell_state(struct r_debug *list, int state) {
     if (list->r_brk != (ElfW(Addr))r_debug_state) ((void (*)(void))list->r_brk)();
 }
 
-/* Writes to a page without changing it. If a page is read first and written later, there are two
- * page faults; with this call there is one. */
+/* Writes to a page without changing it. A read and a later write cause two page faults; with this
+ * call there is only one. */
 static void expect_write(void *at) {
     __asm__ volatile("lock orb $0, %0" : "+m"(*(uint8_t *)at) : : "cc");
 }
 
-/* Returns the list of the C library. As long as there is none, returns a list that has only the
- * loader. */
+/* Returns the list of the C library, or a list that has only the loader as long as there is
+ * none. */
 static struct r_debug *list_of_objects(const struct program *it, struct told *room) {
     extern const char __ehdr_start[] __attribute__((visibility("hidden")));
     ElfW(Dyn) *entry = _DYNAMIC;
@@ -61,8 +61,8 @@ static struct r_debug *list_of_objects(const struct program *it, struct told *ro
     return &room->list;
 }
 
-/* Lists the objects of the image for a debugger, each after the one before. A library has no file,
- * so the list has only its name. */
+/* Lists the objects of the image for a debugger, each after the previous one. A library has no
+ * file, so the list has only its name. */
 static void put_objects(const struct program *it, struct told *room, char *path,
                         struct link_map *last) {
     for (size_t i = 0; i < it->image.object_count; i++) {

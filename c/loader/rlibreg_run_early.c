@@ -1,6 +1,6 @@
-/* Starts from a kept image before the loader's C library is set up, because setting it up takes
- * longer than all of the start. Unusual cases are left to main, which tries the same again and
- * reports what was wrong. rlibreg_entry.c calls this. */
+/* Starts from a kept image before the loader's C library is set up, because this setup takes longer
+ * than the whole start. Leaves unusual cases to main, which tries the same again and reports what
+ * was wrong. rlibreg_entry.c calls this. */
 #define _GNU_SOURCE
 #include "rlibreg_run_early.h"
 #include "rlibreg_run_kernel.h"
@@ -8,9 +8,8 @@
 
 #include <fcntl.h>
 
-/* If the stack may be STACK bytes long, and the data to put there takes at most LITTLE bytes, no
- * check is needed whether the stack can grow: the kernel has made it 128 KiB longer than the
- * arguments need. */
+/* If the stack may be STACK bytes long, and the data on it takes at most LITTLE bytes, the stack
+ * can certainly grow enough: the kernel has made it 128 KiB longer than the arguments need. */
 enum { STACK = 512 << 10, LITTLE = 16 << 10 };
 
 static size_t pointers_in(char **words, char **environment) {

@@ -2,8 +2,8 @@
 #ifndef RLIBREG_RUN_EARLY_H
 #define RLIBREG_RUN_EARLY_H
 
-/* Starts the program from its kept image. Returns only if that isn't possible, and then nothing has
- * changed. */
+/* Starts the program from its kept image. Returns only if this is impossible; in this case nothing
+ * has changed. */
 void rlibreg_run_early(int argc, char **argv);
 
 #endif

@@ -1,5 +1,5 @@
 /* The folder in which images are kept, and the names of the images. The type and the owner of a
- * file are read through its descriptor, so nobody can put another file in its place meanwhile. */
+ * file are read through its descriptor, so that nobody can replace the file in between. */
 #define _GNU_SOURCE
 #include "rlibreg_run_kernel.h"
 #include "rlibreg_run_kept.h"
@@ -11,8 +11,8 @@
 /* ---- Owners */
 
 /* Returns whether a file belongs to root or to the user. In a user namespace, an owner without a
- * number in that namespace is shown as another user. So the kernel is asked too: it permits only
- * the owner of a file to read the file without a change to its access time. */
+ * number in that namespace is shown as another user. For this reason the kernel is asked too: it
+ * permits only the owner of a file to read the file without a change of its access time. */
 static int is_owner(const struct keeping *it, int fd, const struct stat *file) {
     return !file->st_uid || (file->st_uid == it->user && !kernel_set_flags(fd, O_NOATIME));
 }

@@ -9,7 +9,7 @@
 #include <string.h>
 #include <sys/mman.h>
 
-/* The number of bytes for which an image has room at first. */
+/* The number of bytes for which an image first has room. */
 enum { FIRST_ROOM = 1 << 30 };
 
 static uint64_t page_of(uint64_t address) {
@@ -23,8 +23,8 @@ static uint64_t page_behind(const rlibreg_segment *segment) {
 /* ---- Pages */
 
 /* Maps the pages from the address `from` up to `to`, if nothing is mapped there. Returns 0, or -1
- * with errno. A kernel before 4.17 maps other pages instead. The page at 0, where null points, is
- * always refused, as the kernel refuses it to users other than root. */
+ * with errno. A kernel before 4.17 maps other pages instead. Always refuses the page at 0, to which
+ * null points, as the kernel refuses it to users other than root. */
 static int take_pages(uint64_t from, uint64_t to) {
     if (!from) {
         errno = EPERM;
@@ -49,10 +49,10 @@ static void free_pages(const rlibreg_image *image, uint64_t end) {
     errno = why;
 }
 
-/* Maps the pages of all segments, with one call for pages without a gap. Maps all of them or none.
+/* Maps the pages of all segments, with one call for adjacent pages. Maps all of them or none.
  * Returns 0, or -1 with errno. */
 static int take_all_pages(const rlibreg_image *image) {
-    uint64_t from = 0, to = 0; /* pages without a gap that aren't mapped yet */
+    uint64_t from = 0, to = 0; /* adjacent pages that haven't been mapped yet */
     for (size_t i = 0; i <= image->count; i++) {
         const rlibreg_segment *it = i < image->count ? &image->segments[i] : NULL;
         if (it && !it->length) continue;
@@ -76,13 +76,13 @@ static int protection(const rlibreg_segment *it) {
            (it->permissions & RLIBREG_EXECUTE ? PROT_EXEC : 0);
 }
 
-/* Pages that get the same permissions, by one call. */
+/* Pages that get the same permissions by one call. */
 struct run {
     uint64_t from, to;
     int how;
 };
 
-/* Calls an action for pages. Those that are fixed get no permission to write. */
+/* Calls an action for pages. The fixed ones among them get no permission to write. */
 static void act(page_action *action, const struct part *part, uint64_t from, uint64_t to, int how) {
     uint64_t first = part->fixed.from, end = part->fixed.to;
     if (first < from) first = from;
@@ -97,8 +97,8 @@ static void act(page_action *action, const struct part *part, uint64_t from, uin
 /* Calls an action for the pages of an object, with the permissions of the segments in these
  * pages. */
 static void each_pages_of(const struct part *part, page_action *action) {
-    uint64_t last = 0; /* address of the last page of the segments before */
-    int shared = 0;    /* permissions that these segments give that page */
+    uint64_t last = 0; /* address of the last page of the previous segments */
+    int shared = 0;    /* permissions that the previous segments give this page */
     const rlibreg_segment *it = part->program->image.segments + part->object->first_segment;
     for (const rlibreg_segment *end = it + part->object->segments; it < end; it++) {
         uint64_t from = page_of(it->address), to = page_behind(it);
@@ -111,7 +111,7 @@ static void each_pages_of(const struct part *part, page_action *action) {
     }
 }
 
-/* Each object is handled by itself, because two objects never share a page. */
+/* The pages of each object are handled separately, because two objects never share a page. */
 void each_pages(const struct program *program, page_action *action, void *context) {
     const rlibreg_image *image = &program->image;
     for (size_t i = 0; i < image->object_count; i++) {
@@ -136,8 +136,8 @@ static void protect_run(const struct run *it) {
     fail("permissions");
 }
 
-/* Protects pages. If the pages before them get the same permissions, one call protects both. So the
- * last pages aren't protected until the next pages are known. */
+/* Protects pages. If the pages before them get the same permissions, one call protects both. For
+ * this reason, the last pages aren't protected until the next pages are known. */
 static void protect(const struct part *part, uint64_t from, uint64_t to, int how) {
     struct run *run = part->context;
     if (from == run->to && how == run->how) {
@@ -156,8 +156,8 @@ void protect_program(const struct program *program) {
 
 /* ---- The image */
 
-/* Advises a user whose program needs a C library. `line` is the refusal, which ends with the
- * missing name. */
+/* Prints advice for a user whose program needs a C library. `line` is the refusal, which ends with
+ * the missing name. */
 static void advise(const char *line) {
     const char *name = strrchr(line, ' ');
     if (name && (!strncmp(name, " libc.so", 8) || !strncmp(name, " libc.musl-", 11)))
@@ -172,7 +172,7 @@ static void refuse(const rlibreg *registry, uint32_t status, const char *disk) {
     exit(status == RLIBREG_OUT_OF_MEMORY || status == RLIBREG_DEVICE ? FAILED : REFUSED);
 }
 
-/* Returns whether an image ends below the addresses where the kernel maps files. */
+/* Returns whether an image ends below the addresses at which the kernel maps files. */
 static int is_low(const rlibreg_image *image) {
     if (!image->count) return 1;
     const rlibreg_segment *last = &image->segments[image->count - 1];
@@ -186,7 +186,7 @@ static int has_entry(const struct program *it) {
 }
 
 /* Binds the program at a base, and maps the pages of the image. Returns whether the pages were free
- * and, if the loader chose the base, low enough. If they weren't, errno shows which of the two
+ * and, if the loader chose the base, low enough. If this is false, errno shows which of the two
  * conditions failed, and another base may succeed. */
 static int bind_at(struct program *it, rlibreg *registry, const char *disk) {
     uint32_t status =
@@ -214,8 +214,8 @@ void expect_bytes(uint64_t from, uint64_t length) {
     if (length) madvise((void *)first, from + length - first, MADV_POPULATE_WRITE);
 }
 
-/* Returns the offset in a segment at which the page of the byte `at` ends, or the segment, if that
- * ends first. */
+/* Returns the offset in a segment at which the page of byte `at` ends, or the end of the segment if
+ * that comes first. */
 static uint64_t end_of_page(const rlibreg_segment *it, uint64_t at) {
     uint64_t end = at + PAGE - (it->address + at) % PAGE;
     return end < it->length ? end : it->length;
@@ -226,8 +226,8 @@ static int is_zero(const uint8_t *bytes, uint64_t length) {
     return !memcmp(bytes, zeros, length);
 }
 
-/* Copies the bytes of a segment, except pages of zeros. The mapped pages are zeros already, and
- * take no memory until something else is written. */
+/* Copies the bytes of a segment, except pages of zeros. The mapped pages are already zeros, and
+ * take no memory until they are written. */
 static void put_segment(const rlibreg_segment *it, const uint8_t *bytes) {
     uint64_t end, next;
     for (uint64_t at = 0; at < it->length; at = end) {

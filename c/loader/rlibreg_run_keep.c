@@ -1,4 +1,5 @@
-/* Keeps an image that was bound: makes its file without a name, writes it once, and names it. */
+/* Keeps an image that was bound: makes its file without a name, writes the file once, and names
+ * it. */
 #define _GNU_SOURCE
 #include "rlibreg_run_kept.h"
 
@@ -34,8 +35,8 @@ static struct piece *last_of(struct pieces *it) {
     return it->count ? &it->at[it->count - 1] : NULL;
 }
 
-/* Adds pages after all others. They become part of the last piece, if they have the same kind and
- * permissions as its pages. */
+/* Adds pages after all others. If they have the same kind and permissions as the pages of the last
+ * piece, they become part of it. */
 static void add_pages(struct pieces *it, uint64_t address, uint64_t length, int is_zero, int how) {
     struct piece *last = last_of(it);
     if (last && last->address + last->length == address && last->how == (uint64_t)how &&
@@ -166,7 +167,7 @@ static void keep_file(struct keeping *it, const struct program *program, void *b
     }
 }
 
-/* Finds everything that is kept of an image, and makes the beginning of its file. Returns the
+/* Collects everything that is kept of an image, and makes the beginning of its file. Returns the
  * beginning, or null. The caller frees it. */
 static void *describe(const struct keeping *it, const struct program *program, const char *disk) {
     struct pieces pieces = { .at = malloc(MOST_PIECES * sizeof *pieces.at) };
@@ -191,9 +192,8 @@ void keep(struct keeping *it, const struct program *program, const char *disk) {
     free_sources(&it->sources);
 }
 
-/* Maps pages from the file in place of those that only this process has. The pages are mapped at
- * another address first, to find out whether that succeeds. If it fails, the process keeps its own
- * pages. */
+/* Maps pages from the file over those that only this process has. First maps the pages at another
+ * address, to find out whether this succeeds. If it fails, the process keeps its own pages. */
 static void share(const struct piece *it, int fd) {
     if (!it->from) return;
     void *map = mmap(NULL, it->length, (int)it->how, MAP_PRIVATE, fd, (off_t)it->from);

@@ -1,5 +1,5 @@
-/* Starts from a kept image. Its pages are mapped from its file as they are, so processes share the
- * pages that none of them writes. */
+/* Starts from a kept image. Maps its pages from its file without changes, so that processes share
+ * the pages that none of them writes. */
 #define _GNU_SOURCE
 #include "rlibreg_run_kernel.h"
 #include "rlibreg_run_kept.h"
@@ -21,8 +21,9 @@ void say_error(const struct keeping *it, int error) {
 
 /* ---- The beginning of a kept file */
 
-/* Allocates `length` bytes for the beginning of a kept file, which free_beginning frees. Returns
- * null if memory is refused. Most beginnings fit into a static buffer, which needs no call. */
+/* Allocates `length` bytes for the beginning of a kept file. The caller frees them with
+ * free_beginning. Returns null if memory is refused. Most beginnings fit into a static buffer,
+ * which needs no call. */
 static void *take_room(uint64_t length) {
     static _Alignas(struct head) uint8_t usual[USUAL];
     const int how = PROT_READ | PROT_WRITE, kind = MAP_PRIVATE | MAP_ANONYMOUS;
@@ -84,8 +85,8 @@ static int map_pieces(const struct kept_file *it, int kept) {
 
 /* ---- Taking an image */
 
-/* Sets what the rest of the loader needs of an image, except the segments. All of it lies in the
- * beginning, which stays in memory. */
+/* Sets the data of an image that the rest of the loader needs, except the segments. They lie in the
+ * beginning of the file, which stays in memory. */
 static void take_objects(struct program *program, const struct kept_file *it) {
     const struct counts *counts = &it->head->counts;
     program->image.objects = it->objects;
@@ -98,8 +99,8 @@ static void take_objects(struct program *program, const struct kept_file *it) {
         (struct calls){ .at = it->calls + counts->initializers, .count = counts->finalizers };
 }
 
-/* Reports why an image isn't taken. Removes an image that can't be read, because it would delay
- * each later start. */
+/* Reports the reason why an image isn't used. Removes an image that can't be read, because it would
+ * delay each later start. */
 static void leave(const struct keeping *it, int other) {
     if (other == IS_OTHER) {
         say_more(it, "the image there is another one");
@@ -109,8 +110,8 @@ static void leave(const struct keeping *it, int other) {
     }
 }
 
-/* Maps an image that has the key, and compares what it was bound from. The comparison uses the
- * image's own pages, which the program will need anyway. Returns whether the image was taken. */
+/* Maps an image that has the key, and compares its sources. The comparison uses the image's own
+ * pages, which the program will need anyway. Returns whether the image is used. */
 static int take_image(struct keeping *it, struct program *program, int disk, int kept,
                       const struct kept_file *file) {
     int error = map_pieces(file, kept);
@@ -149,8 +150,8 @@ static int is_of(const struct stat *file, const struct state *disk) {
     return file->st_dev == disk->device && file->st_ino == disk->number;
 }
 
-/* Returns whether output to a standard stream may go into a disk, or whether this can't be found
- * out. */
+/* Returns whether output to a standard stream may be written into a disk, or whether this is
+ * unknown. */
 static int is_stream(const struct state *disk) {
     struct stat found;
     for (int number = 0; number < STREAMS; number++) {
@@ -162,8 +163,8 @@ static int is_stream(const struct state *disk) {
     return 0;
 }
 
-/* Finds the key of an image for an open disk. Returns 0, or -1 if there is none. If output would go
- * into the disk, there is none: no image is started for such a disk. */
+/* Finds the key of an image for an open disk. Returns 0, or -1 if there is no key. There is none if
+ * output would be written into the disk, because no image is started for such a disk. */
 static int find_key(struct keeping *it, const struct program *program, int disk) {
     if (disk < 0 || key_of_loader(&it->key) || key_of_disk(disk, &it->key) ||
         is_stream(&it->key.disk) || key_of_program(program, &it->key)) {
@@ -175,7 +176,7 @@ static int find_key(struct keeping *it, const struct program *program, int disk)
     return 0;
 }
 
-/* Takes the image that has the key. Returns whether it was taken. */
+/* Uses the image that has the key, if there is one. Returns whether it is used. */
 static int take_named(struct keeping *it, struct program *program, int disk) {
     uint64_t length;
     give_name(it, program);

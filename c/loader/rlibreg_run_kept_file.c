@@ -1,5 +1,5 @@
-/* The form of the file of a kept image. The file may be anything, so all of it is checked before it
- * is used. */
+/* The format of the file of a kept image. The file may have any bytes, so all of it is checked
+ * before it is used. */
 #define _GNU_SOURCE
 #include "rlibreg_run_kernel.h"
 #include "rlibreg_run_kept.h"
@@ -50,7 +50,8 @@ uint64_t check_of(const struct head *head) {
     return number;
 }
 
-/* The limits that this function tests also keep the sums of the functions above from wrapping. */
+/* The limits that this function tests also prevent an overflow of the sums in the functions
+ * above. */
 int is_head(const struct head *it, uint64_t length) {
     const struct counts *counts = &it->counts;
     return !memcmp(it->form, kept_form, sizeof it->form) && it->length == length &&
@@ -62,7 +63,7 @@ int is_head(const struct head *it, uint64_t length) {
            place_of_pages(counts) <= length;
 }
 
-/* Returns whether a piece doesn't begin before `end`, where the piece before ends, and its pages
+/* Returns whether a piece begins at or after `end`, the end of the previous piece, and its pages
  * lie in the file. */
 static int is_piece(const struct piece *it, uint64_t end, const struct head *head) {
     const uint64_t last = (uint64_t)1 << 47, both = PROT_WRITE | PROT_EXEC;
@@ -97,8 +98,8 @@ static int is_kept(const struct kept_file *it, const struct stretch *one) {
     return one->from >= begin && one->from <= end && one->length <= end - one->from;
 }
 
-/* Returns whether the kept file has the bytes of the stretches, and these lie, in order, in a file
- * or a disk of `length` bytes. */
+/* Returns whether the kept file has the bytes of the stretches, and the stretches lie, in order, in
+ * a file or a disk of `length` bytes. */
 static int are_in_order(const struct kept_file *file, const struct stretch *it, uint64_t count,
                         uint64_t length) {
     uint64_t end = 0;

@@ -12,7 +12,7 @@
 #include <sys/syscall.h>
 #include <unistd.h>
 
-/* Makes a system call with up to six arguments. Returns what the kernel returns. */
+/* Makes a system call with up to six arguments. Returns the result of the kernel. */
 static int64_t ask(long number, const uint64_t it[6]) {
     register uint64_t fourth __asm__("r10") = it[3], fifth __asm__("r8") = it[4];
     register uint64_t sixth __asm__("r9") = it[5];
@@ -149,8 +149,8 @@ void *memset(void *to, int byte, size_t length) {
 /* Bytes of any type, at any address. */
 typedef uint64_t __attribute__((may_alias, aligned(1))) piece;
 
-/* Returns the number of equal bytes at the front, in multiples of what the processor compares at
- * once. The bytes at `other` are requested early: most often they are a map of a file, which this
+/* Returns the number of equal bytes at the front, in multiples of the number that the processor
+ * compares at once. Requests the bytes at `other` early: usually they are a map of a file that this
  * process hasn't read before, while the bytes at `one` have just been read. */
 static size_t equal_at_once(const uint8_t *one, const uint8_t *other, size_t length) {
     enum { PIECES = 8, AHEAD = 1024 };

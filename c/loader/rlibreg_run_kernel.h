@@ -1,5 +1,5 @@
 /* Calls of the kernel, and C's functions on bytes, without a C library. The parts of the loader
- * that run before the C library is set up (rlibreg_run_early.c) use no others. Nothing here is for
+ * that run before the C library is set up (rlibreg_run_early.c) use only these. Nothing here is for
  * users. */
 #ifndef RLIBREG_RUN_KERNEL_H
 #define RLIBREG_RUN_KERNEL_H
@@ -20,8 +20,8 @@ void *memset(void *to, int byte, size_t length) __asm__("rlibreg_kernel_fill");
 int memcmp(const void *one, const void *other, size_t length) __asm__("rlibreg_kernel_compare");
 size_t strlen(const char *text) __asm__("rlibreg_kernel_length");
 
-/* Each call returns what the kernel returns: if it fails, this is the number of the error,
- * negated. */
+/* Each call returns the result of the kernel. If the call fails, this is the negated number of the
+ * error. */
 int kernel_open(int folder, const char *path, int flags);
 int kernel_close(int fd);
 int kernel_flags(int fd);

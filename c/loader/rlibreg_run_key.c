@@ -1,4 +1,4 @@
-/* Makes the key of a kept image, which shows what the image was bound from. */
+/* Makes the key of a kept image, which identifies the sources of the image. */
 #define _GNU_SOURCE
 #include "rlibreg_run_kernel.h"
 #include "rlibreg_run_kept.h"
@@ -24,7 +24,7 @@ enum { SETTLED = 2 };
 
 enum { TMPFS = 0x01021994 };
 
-/* Finds out on what file system a file is. Sets the kind of its state, and an id that most often
+/* Finds out the file system of a file. Sets the kind of the file's state, and an id that usually
  * changes when another file system takes the place of this one. Returns -1 if the file's number and
  * times show little about its bytes: over a network, on a file system that another process serves,
  * and on FAT. */
@@ -109,7 +109,7 @@ static int find_build(const char *notes, const ElfW(Phdr) *segment, struct key *
     return -1;
 }
 
-/* The linker makes the id from everything that it links, so nobody has to remember to change it. */
+/* The linker computes the id from everything that it links, so nobody has to change it by hand. */
 int key_of_loader(struct key *key) {
     extern const char __ehdr_start[] __attribute__((visibility("hidden")));
     const ElfW(Ehdr) *header = (const void *)__ehdr_start;

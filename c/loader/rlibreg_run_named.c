@@ -36,8 +36,8 @@ int make_file(const struct keeping *it) {
     return -1;
 }
 
-/* Gives a file its name. Returns 0, or -1 with errno. Naming a file by its descriptor alone needs
- * CAP_DAC_READ_SEARCH, or Linux 6.10 or later. Without them, the name is made through /proc. */
+/* Gives a file its name. Returns 0, or -1 with errno. Naming a file only by its descriptor needs
+ * CAP_DAC_READ_SEARCH, or Linux 6.10 or later. Without them, makes the name through /proc. */
 static int link_file(const struct keeping *it, int fd) {
     char path[32];
     if (!linkat(fd, "", it->folder, it->name, AT_EMPTY_PATH)) return 0;
@@ -55,10 +55,10 @@ int name_file(const struct keeping *it, int fd) {
     return -1;
 }
 
-/* ---- Which images are removed */
+/* ---- The images that are removed */
 
-/* The two builds of the loader whose images stay: the build that is running, and that one of the
- * other builds which kept an image last. */
+/* The two builds of the loader whose images stay: the build that is running, and the one of the
+ * other builds that last kept an image. */
 struct builds {
     const uint8_t *own;
     uint8_t other[BUILD];
@@ -79,8 +79,8 @@ static int is_older(const struct head *it, const struct head *than) {
            (memcmp(disk, own, sizeof *disk) || memcmp(it->key.roots, than->key.roots, ROOTS));
 }
 
-/* Reads the head of another image of the folder, and the time when it was kept. Returns whether the
- * file is an image. */
+/* Reads the head of another image of the folder, and the time at which the image was kept. Returns
+ * whether the file is an image. */
 static int read_head(const struct keeping *it, const char *name, struct head *head,
                      struct timespec *time) {
     struct stat found;

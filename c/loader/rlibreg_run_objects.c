@@ -1,5 +1,5 @@
-/* Reads the objects of an image in the bytes of their segments, before these are in memory that may
- * be unreadable. */
+/* Reads the objects of an image in the bytes of their segments, before these bytes are in memory
+ * that may be unreadable. */
 #define _GNU_SOURCE
 #include "rlibreg_run.h"
 
@@ -66,9 +66,9 @@ static uint64_t end_of(const rlibreg_image *image, const rlibreg_object *object)
     return last->address + last->length;
 }
 
-/* As in other loaders, the fixed pages go from the page in which PT_GNU_RELRO begins to its last
- * whole page. No fixed page lies past the object's memory. A program that names no loader has no
- * fixed pages, because the start of a static PIE relocates it once more. */
+/* As in other loaders, the fixed pages are those from the page in which PT_GNU_RELRO begins to its
+ * last whole page. No fixed page lies past the object's memory. A program that names no loader has
+ * no fixed pages, because the start of a static PIE relocates it again. */
 struct pages fixed_pages(const rlibreg_image *image, const rlibreg_object *object) {
     Elf64_Phdr one;
     struct pages none = { object->base, object->base };

@@ -15,7 +15,7 @@ struct named {
     size_t number;
 };
 
-/* A library that the walk has entered and not left. */
+/* A library that the walk has entered and not left yet. */
 struct entered {
     size_t number;
     struct dynamic dynamic;
@@ -38,8 +38,8 @@ static int compare_names(const void *a, const void *b) {
     return strcmp(((const struct named *)a)->name, ((const struct named *)b)->name);
 }
 
-/* A name to look for, and the maximum number of its bytes: those up to the end of the segment in
- * which it lies. */
+/* A name to look for, and the maximum number of its bytes: the number up to the end of the segment
+ * in which it lies. */
 struct wanted {
     const char *name;
     uint64_t room;

@@ -19,7 +19,7 @@ static int may_execute(int fd, const char *path) {
     return errno != EACCES && !faccessat(AT_FDCWD, path, X_OK, AT_EACCESS);
 }
 
-/* A file that isn't regular may never end, so the loader refuses it and doesn't wait. */
+/* A file that isn't regular may never end. The loader refuses such a file without waiting. */
 void open_program(struct program *it) {
     it->fd = open(it->path, O_RDONLY | O_CLOEXEC | O_NOCTTY | O_NONBLOCK);
     if (it->fd < 0 || fstat(it->fd, &it->found)) fail(it->path);
@@ -41,7 +41,7 @@ void read_program(struct program *it) {
     }
 }
 
-/* ---- Headers */
+/* Reads the file into memory, so that nobody can shorten or change it while the loader uses it. */
 
 static Elf64_Ehdr file_header(const struct program *it) {
     Elf64_Ehdr header = { 0 };

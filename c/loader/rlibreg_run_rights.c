@@ -8,7 +8,8 @@
 #include <sys/xattr.h>
 
 /* Returns whether the group and others have these rights to the file of a path. A list of rights
- * (ACL) may deny some user what the mode gives to all, so a file with such a list doesn't count. */
+ * (ACL) may deny a user what the mode permits to all. So if a file has such a list, the answer is
+ * no. */
 static int has_rights(const char *path, mode_t rights) {
     struct stat found;
     return !stat(path, &found) && (found.st_mode & rights) == rights &&

@@ -1,7 +1,7 @@
 /* Copies the sectors that a bind reads, as docs/FORMATS.md describes them: the roots, the
- * catalogues, the entries, and the files of the libraries in load order. All of them are copied
- * while the disk is locked, and the program is bound again, against the copy. So the image depends
- * only on the copied bytes, even if a process without the lock writes to the disk meanwhile. */
+ * catalogues, the entries, and the files of the libraries in load order. Copies all of them while
+ * the disk is locked. The program is then bound again with the copy. So the image depends only on
+ * the copied bytes, even if a process without the lock writes to the disk at the same time. */
 #define _GNU_SOURCE
 #include "rlibreg_run_kept.h"
 
@@ -143,8 +143,8 @@ static size_t bytes_of(const rlibreg_image *image) {
     return last->name + last->name_length + 1;
 }
 
-/* Binds the program against a copy, into the buffers of `other`, which have room for an image like
- * the program's. Returns 0 if the two images are equal. */
+/* Binds the program with a copy, into the buffers of `other`, which have room for an image like the
+ * program's. Returns 0 if the two images are equal. */
 static int bind_copy(const struct sources *it, const struct program *program,
                      const rlibreg_image *other) {
     const rlibreg_image *image = &program->image;
@@ -160,7 +160,7 @@ static int bind_copy(const struct sources *it, const struct program *program,
            memcmp(other->bytes, image->bytes, bytes);
 }
 
-/* Returns whether the copy has everything that the program's image comes from. */
+/* Returns whether the copy has all sources of the program's image. */
 static int has_all(const struct sources *it, const struct program *program) {
     rlibreg_image other = { 0 };
     other.objects = malloc(program->image.object_count * sizeof *other.objects);
@@ -171,8 +171,8 @@ static int has_all(const struct sources *it, const struct program *program) {
     return has;
 }
 
-/* Orders extents by their offsets on the disk. In this order a start compares them with the fewest
- * reads. */
+/* Orders extents by their offsets on the disk. In this order, a start needs the fewest reads to
+ * compare them. */
 static int is_before(const void *one, const void *other) {
     const struct extent *a = one, *b = other;
     return (a->at > b->at) - (a->at < b->at);

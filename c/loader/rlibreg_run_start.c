@@ -19,8 +19,8 @@ static size_t words_in(char **list) {
 
 /* Returns the auxiliary vector that the kernel gave this process. It follows the environment. If
  * AT_SECURE is set, this process's C library has removed variables from the environment at its
- * start. Then there is one more null before the vector for each removed variable. The vector itself
- * doesn't begin with a null. */
+ * start. Then there is one additional null before the vector for each removed variable. The vector
+ * itself doesn't begin with a null. */
 static const Elf64_auxv_t *vector_behind(char **environment) {
     while (*environment) environment++;
     while (!*environment) environment++;
@@ -40,8 +40,8 @@ uint64_t auxiliary_value(char **kernels, uint64_t number) {
     return it->a_type == AT_NULL ? 0 : it->a_un.a_val;
 }
 
-/* Returns an entry of the vector for the program. If the kernel's entry describes this loader, the
- * result describes the program. */
+/* Returns an entry of the vector for the program. An entry of the kernel that describes this loader
+ * is replaced by one that describes the program. */
 static Elf64_auxv_t entry_for(const struct program *it, Elf64_auxv_t entry) {
     switch (entry.a_type) {
     case AT_PHDR:
@@ -70,8 +70,8 @@ static Elf64_auxv_t entry_for(const struct program *it, Elf64_auxv_t entry) {
 
 static struct calls at_the_end;
 
-/* The program calls this. By then the thread-local data are the program's own, so nothing of this
- * process's C library may be used. Each finalizer is called once, even if one of them ends the
+/* The program calls this. At that time the thread-local data are the program's own, so nothing of
+ * this process's C library may be used. Each finalizer is called once, even if one of them ends the
  * program. */
 static void call_finalizers(void) {
     typedef void finalizer(void);
@@ -86,10 +86,10 @@ static void call_initializers(const struct program *it, uint64_t *stack) {
         ((initializer *)it->initializers.at[i])(argc, words, words + argc + 1);
 }
 
-/* Sets up the thread's block as a C library would. Code that is compiled with -fstack-protector
- * looks for its secret in this block, in libraries and in a program without a C library of its own.
- * As in other loaders, the secret is taken from the kernel's random bytes, and its lowest byte is a
- * zero. */
+/* Sets up the thread's block in the same way as a C library. Code that is compiled with
+ * -fstack-protector looks for its secret in this block, in libraries and in a program without its
+ * own C library. As in other loaders, the secret is taken from the kernel's random bytes, and its
+ * lowest byte is zero. */
 enum { OWN = 0, SECRET = 5, THREAD = 8 }; /* indexes of its words, and their number */
 static void take_thread(uint64_t *block, const uint64_t *random) {
     memset(block, 0, THREAD * sizeof *block);
@@ -128,8 +128,8 @@ static void *room_for(size_t bytes) {
     return (void *)map;
 }
 
-/* If the program's path is relative, writes the path of the current folder to `to`, with a slash at
- * its end. Returns the number of bytes that were written, or an error as a negative number. */
+/* Writes the path of the current folder to `to`, with a slash at its end, if the program's path is
+ * relative. Returns the number of bytes that were written, or an error as a negative number. */
 static int64_t read_folder(const struct program *it, char *to, size_t room) {
     if (*it->path == '/') return 0;
     int64_t length = kernel_folder(to, room); /* with the byte 0 at the end */
@@ -140,7 +140,7 @@ static int64_t read_folder(const struct program *it, char *to, size_t room) {
 
 /* Returns a copy of the program's path, made absolute, or null if the system doesn't report the
  * current folder. If the copy is short enough, it is in `room`. /proc/self/fd has the path of the
- * open file too, but reading it takes longer than everything else that is done here. */
+ * open file too, but reading it takes longer than the rest of this function. */
 static char *path_of(const struct program *it, char *room, size_t length) {
     size_t own = strlen(it->path) + 1;
     int64_t folder = own < length ? read_folder(it, room, length - own) : -ERANGE;
@@ -153,8 +153,8 @@ static char *path_of(const struct program *it, char *room, size_t length) {
     return room;
 }
 
-/* The program's stack lies below what this process has on its own stack, and grows down from
- * there. */
+/* The program's stack lies below the data that this process has on its own stack, and grows down
+ * from there. */
 void start(struct program *it, char **words, char **environment, char **kernels) {
     enum { LITTLE = 8 << 10, SHORT = 256 };
     char few[SHORT];

@@ -7,7 +7,7 @@
 #include <string.h>
 #include <sys/mman.h>
 
-/* Returns the piece that has an address, if it is in the file and may be read; otherwise null. */
+/* Returns the piece that has an address, or null if it isn't in the file or may not be read. */
 static const struct piece *kept_piece(const struct pieces *it, uint64_t address) {
     const struct piece *piece = piece_with(it->at, it->count, address);
     return piece && piece->from && piece->how & PROT_READ ? piece : NULL;

@@ -11,7 +11,7 @@ static unsigned digit_of(char letter) {
 }
 
 /* Reads a base from digits, which are decimal or, after 0x, hexadecimal. Returns whether the word
- * consists of digits only, and the base fits into 64 bits. */
+ * has only digits, and the base fits into 64 bits. */
 static int read_base(const char *word, uint64_t *base) {
     unsigned radix = word[0] == '0' && word[1] == 'x' ? 16 : 10;
     if (radix == 16) word += 2;
@@ -35,7 +35,7 @@ static int take_value(struct program *it, struct keeping *keeping, char letter, 
     return read_base(value, &it->base);
 }
 
-/* Reads the options of the first word, which may be several. A value is the rest of the word, or
+/* Reads the options of the first word, which may have several. A value is the rest of the word, or
  * the next word. Returns whether the options are valid, and sets `taken` to the number of words
  * that they take. */
 static int read_word(struct program *it, struct keeping *keeping, char **words, int *taken) {

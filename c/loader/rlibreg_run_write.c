@@ -1,4 +1,4 @@
-/* Writes the file of an image from its beginning to its end, in few calls. A file system keeps the
+/* Writes the file of an image from its beginning to its end, in few calls. A file system stores the
  * bytes of one call in few large pages, and a start maps, reads and unmaps these faster. */
 #define _GNU_SOURCE
 #include "rlibreg_run_kept.h"
@@ -16,7 +16,7 @@ struct output {
     struct iovec parts[MOST_PARTS];
 };
 
-/* Removes the first `written` bytes, which were written. Returns the number of parts that are
+/* Removes the first `written` bytes, which have been written. Returns the number of parts that are
  * left. */
 static int drop_written(struct iovec **it, int count, size_t written) {
     for (; count && written >= (*it)->iov_len; count--) written -= (*it)++->iov_len;
@@ -58,8 +58,8 @@ static void put_pieces(struct output *it, const struct piece *one, uint64_t coun
         if (one->from) put(it, (const void *)one->address, one->length);
 }
 
-/* The file is on the medium before any process maps it. Otherwise a process might find other bytes
- * in a page that the system couldn't write and had to drop. */
+/* The file must be on the medium before any process maps it. Otherwise a process might find other
+ * bytes in a page that the system couldn't write and had to drop. */
 int write_kept(int fd, const struct keeping *it, const struct program *program,
                const struct kept_file *file) {
     static const uint8_t zeros[PAGE];

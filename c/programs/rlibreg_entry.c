@@ -18,7 +18,7 @@
 #include <sys/stat.h>
 #include <sys/syscall.h>
 
-/* Number of bytes to ask for: more than a start needs, which is some 150 KiB. */
+/* Number of bytes that are requested: more than a start needs, which is some 150 KiB. */
 enum { MEMORY = 512 << 10 };
 
 void rlibreg_begin(int64_t *stack);
@@ -58,8 +58,8 @@ int rlibreg_names_stream(int stream, char **words) {
     return 0;
 }
 
-/* Prints the message and ends the process. A pipe without a reader doesn't end it earlier, because
- * SIGPIPE stays blocked. */
+/* Prints the message and ends the process. If the stream is a pipe without a reader, the process
+ * doesn't end earlier, because SIGPIPE stays blocked. */
 static void refuse(char **words) {
     static const char message[] = MESSAGE;
     static const uint64_t pipe_signal = (uint64_t)1 << (SIGPIPE - 1);

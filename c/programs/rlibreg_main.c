@@ -6,7 +6,7 @@
 #include <sys/syscall.h>
 #include <unistd.h>
 
-/* Number of bytes of stack: commands need up to some 210 KiB. */
+/* Number of bytes of stack. Commands need up to some 210 KiB. */
 enum { STACK = 384 << 10 };
 
 int __real_main(int argc, char **argv, char **environment);

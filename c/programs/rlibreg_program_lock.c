@@ -26,7 +26,7 @@ int rlibreg_take_early_fault(void) {
 }
 
 /* Locks a file exclusively. Returns 0, or -1 with errno. A program opens its disk once, so all its
- * tries for the lock together end after two seconds. The language itself repeats a call for the
+ * attempts to lock it end together after two seconds. The language itself repeats a call for the
  * lock of a device, and EBUSY ends these repetitions. */
 static int lock_alone(int fd) {
     static int64_t until;
@@ -37,8 +37,8 @@ static int lock_alone(int fd) {
     return -1;
 }
 
-/* Locks a file in place of flock. If a file that is open only for reading is to be locked
- * exclusively, a `format` may have left the file, and the call doesn't wait. */
+/* Replaces flock. If a file that is open only for reading is to be locked exclusively, a `format`
+ * may have left the file. In this case the call doesn't wait. */
 int __wrap_flock(int fd, int kind) {
     if (kind == (LOCK_SH | LOCK_NB)) {
         if (rlibreg_write_out(fd)) early_fault = errno;

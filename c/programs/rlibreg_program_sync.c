@@ -24,8 +24,8 @@ enum { NUMBERS = 64, ROOTS = 1024 };
 enum written { NOTHING, NO_ROOT, A_ROOT };
 
 /* The disk that is open for changes, and the path by which it was opened. The program opens nothing
- * else for writing, and never changes its working directory. A disk that `format` makes isn't kept
- * here: it gets its name only after its last sync. */
+ * else for writing, and never changes its working directory. A disk that `format` makes isn't
+ * recorded here, because it gets its name only after its last sync. */
 static struct {
     int fd;
     struct stat file;
@@ -36,12 +36,12 @@ static struct {
 /* Records the disk and its path, if it was opened for changes. Returns 0, or -1 if the system
  * doesn't report which file it is. */
 static int keep_path(int fd, const char *path, int flags) {
-    if (fd == changed.fd) changed.fd = -1; /* another file has the number now */
+    if (fd == changed.fd) changed.fd = -1; /* the number now belongs to another file */
     if ((flags & O_ACCMODE) == O_RDONLY || flags & O_CREAT) return 0;
     if (fstat(fd, &changed.file)) return -1;
     changed.fd = fd;
     changed.written = NOTHING;
-    strcpy(changed.path, path); /* the system opens no longer path */
+    strcpy(changed.path, path); /* the path fits, because the system opens no longer path */
     return 0;
 }
 
@@ -59,8 +59,8 @@ int __wrap_open(const char *path, int flags, ...) {
 }
 
 /* Checks, after the first successful sync of a file, that the medium has the roots that the system
- * shows. Returns 0, or -1 with errno. A descriptor with a high number is checked after each sync.
- * The program opens its disk once, so a number belongs to one file. */
+ * shows. Returns 0, or -1 with errno. Checks a descriptor with a high number after each sync. The
+ * program opens its disk once, so each number stands for one file. */
 static int meet_front_once(int fd) {
     static char was_synced[NUMBERS];
     if (fd < NUMBERS && was_synced[fd]) return 0;
@@ -78,9 +78,9 @@ ssize_t __wrap_pwrite(int fd, const void *bytes, size_t length, off_t at) {
 }
 
 /* Checks, after a sync of the disk that is open for changes, that its path still names it. If it
- * doesn't, nobody will see what was written, and the sync fails. No check is made if no root was
- * written: other sectors become part of the registry only with a root, and the sync after that root
- * checks the path. */
+ * doesn't, the sync fails, because nobody would see the written sectors. Makes no check if no root
+ * was written: other sectors become part of the registry only with a root, and the sync after that
+ * root checks the path. */
 static int sync_changed(void) {
     enum written written = changed.written;
     changed.written = NOTHING;

@@ -1,6 +1,6 @@
-/* Makes the stack of a process large enough at its start. If a stack can't grow, for want of
- * address space or memory or because of the user's limit, SIGSEGV ends the process in the middle of
- * its work. So the stack grows before any work begins. */
+/* Makes the stack of a process large enough at its start. If a stack can't grow, because address
+ * space or memory is lacking or because of the user's limit, SIGSEGV ends the process in the middle
+ * of its work. For this reason the stack grows before any work begins. */
 #define _GNU_SOURCE
 #include "rlibreg_stack.h"
 
@@ -18,12 +18,15 @@ static struct refused_stack then;
 static void cannot_grow(int number) {
     (void)number;
     signal(SIGPIPE, SIG_IGN); /* a pipe without a reader changes no status */
-    if (write(then.stream, then.message, strlen(then.message)) < 0) errno = 0; /* nobody can be
-                                                                                * informed */
+    if (write(then.stream, then.message, strlen(then.message)) < 0) errno = 0; /* if this fails,
+                                                                                * there is no
+                                                                                * other way to
+                                                                                * report it */
     _exit(then.status);
 }
 
-/* Writes a byte that lies `bytes` bytes down the stack, so the system makes the stack that long. */
+/* Writes a byte that lies `bytes` bytes down the stack, so the system extends the stack to this
+ * byte. */
 __attribute__((noinline)) static void touch(size_t bytes) {
     *(volatile char *)alloca(bytes) = 0;
 }

@@ -4,14 +4,14 @@
 
 #include <stddef.h>
 
-/* The end of a process whose stack can't grow: it prints `message` to the standard stream `stream`,
- * and exits with `status`. */
+/* What to do if the stack can't grow: print `message` to the standard stream `stream`, and exit
+ * with `status`. */
 struct refused_stack {
     int status, stream;
     const char *message;
 };
 
-/* Makes the stack of the first thread larger by `bytes` bytes. If that is refused, ends the process
+/* Makes the stack of the first thread larger by `bytes` bytes. If this is refused, ends the process
  * as `refused` describes. Otherwise the kernel would kill the process later, when it needs the
  * stack. */
 void rlibreg_grow_stack(size_t bytes, struct refused_stack refused);

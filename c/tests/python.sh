@@ -26,8 +26,8 @@ eval "$(sed -n 's/^    \$ //p' "$page")"
 python3 -B -m doctest "$page"
 cd ..
 
-# imported FOLDER: prints the last line of Python's output if the library is looked for in this folder
-# first.
+# imported FOLDER: prints the last line of Python's output if Python searches this folder first for
+# the library.
 imported() {
     LD_LIBRARY_PATH=$1 python3 -B -c 'import rlibreg' 2>&1 | tail -n 1
 }

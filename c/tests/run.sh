@@ -24,7 +24,7 @@ if [ -n "${CC:-}" ]; then
 fi
 musl=
 gcc -E -dM -include stdio.h -x c /dev/null | grep -q __GLIBC__ || musl=yes
-flags="-std=c11 -g -Wall -Wextra -Wpedantic -Werror -I$built -I$here/../library -I$here/../loader"
+flags="-std=c11 -g -Wall -Wextra -Wpedantic -Werror -I$built -I$here/../library -I$here/../loader -I$here/../programs"
 sanitizers='-fno-sanitize-recover=all -fsanitize=undefined'
 # has_sanitizer NAME: succeeds if a program that is compiled with the sanitizer runs. Otherwise prints
 # the reason.

@@ -284,7 +284,8 @@ status=0
 [ "$CUT" != "after:$number" ] || kill -9 0
 exit $status
 END
-# The model: looks at what a power cut would leave, and then writes to `medium` what the step has synced.
+# The model: looks at the files that a power cut would leave, and then writes to `medium` what the step
+# has synced.
 cat > steps/model << 'END'
 #!/bin/bash
 set -eu
@@ -395,7 +396,7 @@ mv start/two start/two.equal
 way --resize one two
 mv start/two.equal start/two
 
-# The power fails in the model, also if the link was changed just before and the medium doesn't have the
+# The power fails in the model, even if the link was changed just before and the medium doesn't have the
 # change: then `one` is written, as `two`.
 start
 mkdir medium

@@ -41,7 +41,7 @@ _DUMPED = 1 << 15  # the maximum number of a library's bytes in one piece of a d
 
 
 class Status(enum.IntEnum):
-    """The answers of calls, by the names and numbers of rlibreg.h."""
+    """The statuses of calls, with the names and numbers of rlibreg.h."""
 
     DONE = 0
     BUFFER_TOO_SMALL = 1
@@ -99,8 +99,8 @@ class Library(NamedTuple):
 
 
 class Listing(NamedTuple):
-    """The libraries and preloads of a registry, in the order of installation, and the number of
-    its changes."""
+    """The libraries and preloads of a registry, in the order of installation, and the number of changes since the
+    disk was formatted."""
 
     generation: int
     libraries: list[Library]
@@ -121,7 +121,7 @@ class Info(NamedTuple):
 
 
 class Finding(NamedTuple):
-    """A finding on an installed library, in the words of rlibreg-tool."""
+    """The finding for an installed library, in the words of rlibreg-tool."""
 
     number: int  # 0 if sound; n of the first test En that refuses its file; else 100
     name: str  # 'Sound'; the name of a test, such as 'E2 BadMagic'; or 'OtherName'
@@ -153,15 +153,15 @@ class Object(NamedTuple):
 
 
 class Image(NamedTuple):
-    """A bound program in memory: the segments of the program and its libraries, from low addresses
-    to high ones, and these objects in load order, the program first."""
+    """A bound program in memory: the segments of the program and its libraries, from low addresses to high ones; and
+    these objects in load order, the program first."""
 
     segments: list[Segment]
     objects: list[Object]
 
 
 class Binding(NamedTuple):
-    """A symbol that a relocation of an object names, and what it is bound to."""
+    """A symbol to which a relocation of an object refers, and the symbol to which it is bound."""
 
     symbol: str
     object: str | None  # the name of the object that defines it, or None
@@ -191,7 +191,7 @@ class Bindings(NamedTuple):
 
 
 class Error(Exception):
-    """A call whose answer isn't DONE."""
+    """A call whose status isn't DONE."""
 
     number: int = Status.BAD_ARGUMENT  # a Status, as in rlibreg.h
     name: str = ''  # for example 'B3 Missing'
@@ -206,10 +206,9 @@ class Error(Exception):
 
 
 class Refusal(Error):
-    """The registry refuses a call, by a number that the program's manual explains (B1 to B5, C1
-    to C6, S1 to S12), or a bound program has no executable file. Nothing was done, except with
-    S1 (Device): then a change may or may not have been made, and the registry has to be opened
-    again."""
+    """The registry refuses a call with a number that the program's manual explains (B1 to B5, C1 to C6, S1 to S12),
+    or a bound program has no executable file. Nothing was done, except with S1 (Device): then a change may have been
+    made or not, and the registry has to be opened again."""
 
 
 class Locked(Error):
@@ -221,12 +220,12 @@ class Busy(Error, RuntimeError):
 
 
 class Closed(Error, ValueError):
-    """The registry was closed before."""
+    """The registry has already been closed."""
 
 
 class SystemFault(OSError, Error):
-    """A call of the system failed, before anything was done. If Python has a class for its errno,
-    the error is of that class too, like the classes below."""
+    """A call of the system failed, before anything was done. If Python has a class for its errno, the error is of
+    that class too, like the classes below."""
 
 
 class FileNotFound(SystemFault, FileNotFoundError):
@@ -268,8 +267,8 @@ def version() -> int:
 
 
 def _content(file: Content) -> bytes:
-    """Returns the bytes of a library or a program: `file` itself, or the bytes of the file with
-    this path. If that file is too long, returns only as many bytes as show this."""
+    """Returns the bytes of a library or a program: `file` itself, or the bytes of the file with this path. If that
+    file is too long, returns only as many bytes as are needed to show this."""
     if isinstance(file, (str, os.PathLike)):
         with open(file, 'rb') as stream:
             length = os.fstat(stream.fileno()).st_size or _MOST  # a path that isn't that of a file has no length
@@ -287,14 +286,15 @@ def _word(word: PathName) -> bytes:
 
 
 def _words(names: Iterable[str]) -> list[bytes]:
-    """Returns the names of preloads in the form that C needs."""
+    """Returns the names of preloads in the format for C."""
     if isinstance(names, (str, bytes)):
         raise TypeError('preloads must be a list of names')
     return [_word(name) for name in names]
 
 
 def _unsigned(value: int, bits: int) -> int:
-    """Returns a number that fits into C's type: ctypes would take it modulo 2^bits."""
+    """Returns a number that fits into C's type. Refuses any other number, because ctypes would take it modulo
+    2^bits."""
     number = operator.index(value)
     if not 0 <= number < 1 << bits:
         raise OverflowError(f'{number} is not an unsigned {bits}-bit number')
@@ -302,7 +302,7 @@ def _unsigned(value: int, bits: int) -> int:
 
 
 def _seconds(wait: Wait) -> float:
-    """Returns how many seconds to wait for a lock."""
+    """Returns the number of seconds for which a call waits for a lock."""
     if not isinstance(wait, (int, float)):
         raise TypeError('wait must be True, False, or a number of seconds')
     if not wait >= 0:
@@ -330,25 +330,24 @@ os.register_at_fork(after_in_child=_count_fork)
 
 
 def _process() -> tuple[int, int]:
-    """Returns what identifies this process. A child can have its parent's process number, if it is
-    process 1 of another process namespace, so forks are counted, too."""
+    """Returns the identity of this process. If a child is process 1 of another process namespace, it can have its
+    parent's process number. For this reason the identity also has the number of forks."""
     return os.getpid(), _forks
 
 
 class _Turn(threading.local):
-    """The turn of this thread: whether the thread is within a call."""
+    """The turn of a thread: whether the thread is within a call."""
 
     is_taken = False
 
 
 class _Handle:
-    """A struct rlibreg. Only one call of it is made at a time, and only in the process that made
-    it.
+    """A struct rlibreg. Only one call of it is made at a time, and only in the process that made it.
 
-    Python may run the handler of a signal between any two steps of the main thread, for example
-    between a call and the reading of its text. So a thread takes its turn before it waits for the
-    lock, and keeps the turn until it has read the whole answer. A handler that finds the turn taken
-    makes no call, and leaves a `close` to the call that it interrupts."""
+    Python may run the handler of a signal between any two steps of the main thread, for example between a call and
+    the reading of its text. For this reason a thread takes its turn before it waits for the lock, and keeps the turn
+    until it has read the whole answer. If a handler finds the turn taken, it makes no call, and leaves a `close` to
+    the call that it interrupts."""
 
     def __init__(self, path: PathName) -> None:
         self.path = path
@@ -361,9 +360,8 @@ class _Handle:
             raise MemoryError
 
     def close(self) -> None:
-        """Closes the struct. In a child of fork this closes the child's file, and the parent keeps
-        its lock. There, a thread that isn't in the child may have held `lock`, so `lock` isn't
-        taken."""
+        """Closes the struct. In a child of fork, this closes the child's file, and the parent keeps its lock. In
+        such a child, `lock` isn't taken, because a thread that the child doesn't have may hold it."""
         self.is_closed = True
         if self.turn.is_taken:
             return
@@ -382,7 +380,7 @@ class _Handle:
         _library.rlibreg_close(pointer)
 
     def refusal(self) -> Error | None:
-        """Returns why no call can be made, or None."""
+        """Returns the reason why no call can be made, or None."""
         if _process() != self.process:
             return _error(Error, Status.BAD_ARGUMENT, 'the registry was opened by another process')
         if self.is_closed:
@@ -392,10 +390,9 @@ class _Handle:
         return None
 
     def do(self, work: Callable[[], Union[Error, _Given]]) -> _Given:
-        """Runs `work`, which makes calls by `ask`. No call of another thread comes between them.
-        The turn and the lock are released before the error that `work` returns is raised. Before
-        Python 3.11, a handler could otherwise run while an exception passes through them, and leave
-        them taken."""
+        """Runs `work`, which makes calls by `ask`, without a call of another thread between them. Releases the turn
+        and the lock before it raises the error that `work` returns. Otherwise, before Python 3.11, a handler could
+        run while an exception passes through them, and they would stay taken."""
         error = self.refusal()
         if error:
             raise error
@@ -405,7 +402,7 @@ class _Handle:
                 given = work()
         finally:
             self.turn.is_taken = False
-            if self.is_closed:  # a handler has asked for it meanwhile
+            if self.is_closed:  # a handler has requested it meanwhile
                 self.close()
         if isinstance(given, Error):
             raise given
@@ -416,9 +413,9 @@ class _Handle:
         self.do(lambda: self.ask(name, *words))
 
     def open(self, name: str, *words: object, flags: int, wait: Wait) -> None:
-        """Makes a call that locks the file, and waits for the lock as `wait` says. Without a limit
-        a signal ends the library's wait, and with a limit it doesn't. The library answers before
-        the limit if the thread would wait for itself."""
+        """Makes a call that locks the file, and waits for the lock according to `wait`. Without a limit, a signal
+        ends the library's wait; with a limit, it doesn't. If the thread would wait for itself, the library answers
+        before the limit."""
         seconds = _seconds(wait)
         flags |= _calls.WAIT if seconds else 0
         if seconds in (0, math.inf):
@@ -436,8 +433,8 @@ class _Handle:
                     raise
 
     def ask(self, name: str, *words: object) -> Error | None:
-        """Makes a call, and returns its error or None. If a signal ends the call while it waits
-        for a lock, the signal's handler runs, and the call is made again."""
+        """Makes a call, and returns its error or None. If a signal ends the call while it waits for a lock, runs the
+        signal's handler, and makes the call again."""
         if self.is_closed:
             return _error(Closed, Status.BAD_ARGUMENT, 'the registry is closed')
         function = getattr(_library, f'rlibreg_{name}')
@@ -559,8 +556,8 @@ def _has(handle: _Handle, data: bytes) -> Error | bool:
 
 
 def _put(handle: _Handle, data: bytes) -> Error | Put:
-    """Installs a library. If a library of its SONAME with other bytes is installed, replaces it.
-    The file itself is tested first, whatever is installed."""
+    """Installs a library, or replaces the library that has the same SONAME and other bytes. Tests the file itself
+    first, with any libraries installed."""
     error = handle.ask('install', data, len(data))
     if not error or error.number != Status.ALREADY_INSTALLED:
         return error or 'installed'
@@ -580,7 +577,7 @@ def _finding(number: int) -> Finding:
 
 
 def _damaged(name: str, finding: Finding) -> Error:
-    """Returns why a registry is dumped only up to this library, in the words of rlibreg-tool."""
+    """Returns the reason why the dump of a registry ends before this library, in the words of rlibreg-tool."""
     error = _error(Refusal, Status.DAMAGED)
     spelt = name.replace('\\', '\\x5c')
     error.text = finding.text.replace(' ', f' {spelt} ', 1)
@@ -612,17 +609,16 @@ def _object(it: _calls.Object, given: _calls.Image, segments: list[Segment]) -> 
 
 
 def _is_of_a_change(number: int) -> bool:
-    """Returns whether a refusal is that of a change, and not of an opening or a bind."""
+    """Returns whether a refusal is that of a change, rather than of an opening or a bind."""
     return (Status.BAD_FILE <= number <= Status.TOO_MANY_PRELOADS or
             Status.FULL <= number <= Status.GENERATION_END)
 
 
 class Update:
-    """Changes of a registry that are made together, as one, when its `with` block ends. If the
-    block ends by an exception, none is made. Until the end nothing is written or refused. If the
-    registry refuses a change, the next `bind`, and the end, raise the exception; its `change` is
-    the number of the change. Files are passed as to the calls of Registry, and stay in memory until
-    the end."""
+    """Changes of a registry that are made together, as one change, when the `with` block ends. If the block ends
+    with an exception, none of them is made. Until the end, nothing is written or refused. If the registry refuses a
+    change, the next `bind`, and the end, raise the exception; its `change` is the number of the refused change.
+    Files are passed in the same way as to the calls of Registry, and stay in memory until the end."""
 
     def __init__(self, handle: _Handle) -> None:
         self._handle = handle
@@ -680,13 +676,12 @@ class Update:
         self._begun().append((_calls.REMOVE, _word(name)))
 
     def preload(self, names: Iterable[str]) -> None:
-        """Sets the preloads, in this order."""
+        """Makes the libraries with these names the preloads, in this order."""
         data = b''.join(word + b'\0' for word in _words(names))
         self._begun().append((_calls.PRELOAD, data))
 
     def bind(self, program: Content, base: int) -> Image:
-        """Binds a program against the registry as it will be once the changes so far are made.
-        Writes nothing."""
+        """Binds a program with the registry as it will be after the changes so far. Writes nothing."""
         data, given = _content(program), _calls.Image()
         address = _unsigned(base, 64)
         self._call('preview_bind', data, len(data), address, ctypes.byref(given))
@@ -694,14 +689,13 @@ class Update:
 
 
 class Registry:
-    """The registry in a file, or on a block device. It is open and locked until `close`, or until
-    the end of a `with` block. With `read_write` it is open for changes too, and the lock is
-    exclusive; otherwise the lock is shared with other readers. If somebody else has the lock,
-    Locked is raised; with `wait` the call waits for the lock instead: without a limit if `wait` is
-    True, and otherwise for `wait` seconds.
+    """The registry in a file, or on a block device. It is open and locked until `close`, or until the end of a
+    `with` block. With `read_write` it is open for changes too, and the lock is exclusive; otherwise the lock is
+    shared with other readers. If another process or Registry has the lock, Locked is raised. With `wait`, the call
+    waits for the lock instead: without a limit if `wait` is True, and otherwise for `wait` seconds.
 
-    The file of a library or a program is given as its bytes (any object that has a buffer), or by
-    its path (a str or an os.PathLike). A path is read whole."""
+    You pass the file of a library or a program as its bytes (any object that has a buffer), or as its path (a str or
+    an os.PathLike). The whole file of a path is read."""
 
     def __init__(self, path: PathName, read_write: bool = False, wait: Wait = False) -> None:
         name = _word(path)
@@ -755,9 +749,8 @@ class Registry:
         self._handle.call('replace', data, len(data))
 
     def put(self, file: Content) -> Put:
-        """Installs a library, or replaces the library that has the same SONAME. Returns
-        'installed' or 'replaced'; or 'unchanged' if that library has exactly these bytes, and then
-        writes nothing."""
+        """Installs a library, or replaces the library that has the same SONAME. Returns 'installed' or 'replaced'.
+        If the library already has exactly these bytes, writes nothing and returns 'unchanged'."""
         data = _content(file)
         return self._handle.do(lambda: _put(self._handle, data))
 
@@ -766,41 +759,41 @@ class Registry:
         self._handle.call('remove', _word(name))
 
     def preload(self, names: Iterable[str]) -> None:
-        """Sets the preloads, which every program is bound with, in this order."""
+        """Makes the libraries with these names the preloads, in this order. Every program is bound with the
+        preloads."""
         words = _words(names)
         self._handle.call('preload', (_calls.TEXT * len(words))(*words), len(words))
 
     def update(self) -> Update:
-        """Returns an update: changes that are made together, at the end of its `with` block. If
-        the block ends by an exception, none is made."""
+        """Returns an update: changes that are made together, at the end of its `with` block. If the block ends with
+        an exception, none of them is made."""
         return Update(self._handle)
 
     def list(self) -> Listing:
-        """Returns the libraries, the preloads, and the number of changes of the registry."""
+        """Returns the libraries, the preloads, and the number of changes since the disk was formatted."""
         return self._handle.do(lambda: _list(self._handle))
 
     def file(self, name: str) -> bytes:
-        """Returns the bytes of the library of this name, as they were installed. The call doesn't
-        test whether these bytes still are a library, and reads no other library's file."""
+        """Returns the bytes of the library with this name, as they were installed. Reads no other library's file,
+        and doesn't test whether the bytes are still a library."""
         word = _word(name)
         return self._handle.do(lambda: _file(self._handle, word))
 
     def digest(self, name: str) -> bytes:
-        """Returns the SHA-256 of the bytes that `file` returns for this name, as hashlib's
-        `digest` does."""
+        """Returns the SHA-256 of the bytes that `file` returns for this name, in the form of hashlib's `digest`."""
         word, given = _word(name), _calls.array(_calls.DIGEST_BYTES)()
         self._handle.call('get_digest', word, given)
         return bytes(given.raw)
 
     def info(self) -> Info:
-        """Returns the numbers of the registry as a whole. The call reads no library's file."""
+        """Returns the numbers of the registry as a whole. Reads no library's file."""
         given = _calls.Information()
         self._handle.call('get_info', ctypes.byref(given))
         return Info(*(getattr(given, name) for name in Info._fields))
 
     def check(self) -> Findings:
-        """Tests each library, in the order of installation. Returns a finding on each. The others
-        are tested even if a library is damaged."""
+        """Tests each library, in the order of installation, and returns a finding for each of them. Tests all
+        libraries even if one is damaged."""
         given = _calls.Findings()
         try:
             self._handle.call('check_libraries', ctypes.byref(given))
@@ -809,10 +802,10 @@ class Registry:
             _library.rlibreg_findings_free(ctypes.byref(given))
 
     def dump(self) -> Iterator[bytes]:
-        """Yields the script by which `rlibreg script` makes the registry again, as rlibreg-tool dumps it. The
-        script is yielded in pieces, each of which has to be taken before the next change. Only the last piece
-        ends a line, so a script of only some of the pieces is refused. If a library is damaged, or a call fails,
-        the last piece is `cut`, and then the exception is raised."""
+        """Yields the script with which `rlibreg script` makes the same registry again, as rlibreg-tool dumps it.
+        Yields the script in pieces; take all of them before the next change. Only the last piece ends a line, so a
+        script that lacks pieces is refused. If a library is damaged, or a call fails, the last piece is `cut`, and
+        then the exception is raised."""
         begin = b''
         try:
             listing = self.list()
@@ -842,16 +835,15 @@ class Registry:
         return _image(given)
 
     def bindings(self, program: Content, base: int) -> Bindings:
-        """Binds a program at an address, and returns what the symbols of the program and of the
-        libraries that it needs are bound to. An undefined symbol or a missing name is no
-        exception: `status` has the number by which `bind` would refuse."""
+        """Binds a program at an address, and returns the bindings of the symbols of the program and of the libraries
+        that it needs. An undefined symbol or a missing name raises no exception: `status` has the number with which
+        `bind` would refuse."""
         data, address = _content(program), _unsigned(base, 64)
         return self._handle.do(lambda: _bindings(self._handle, data, address))
 
     def executable(self, program: Content, base: int) -> bytes:
-        """Returns the static executable file of a program that is bound at an address. It needs
-        neither a loader nor the registry. Linux before 6.17 starts no file with more than 73
-        program headers."""
+        """Returns the static executable file of a program that is bound at an address. The file needs neither a
+        loader nor the registry. Linux before 6.17 starts no file with more than 73 program headers."""
         data, address = _content(program), _unsigned(base, 64)
         return self._handle.do(lambda: _executable(self._handle, data, address))
 

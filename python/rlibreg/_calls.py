@@ -68,8 +68,7 @@ class Findings(ctypes.Structure):
 
 @functools.lru_cache(maxsize=64)
 def array(length: int) -> Any:
-    """Returns the type of an array of `length` bytes. Each type is kept, because it takes long to
-    make."""
+    """Returns the type of an array of `length` bytes. Stores each type, because making it takes long."""
     return ctypes.c_char * length
 
 
@@ -81,9 +80,8 @@ class Image(ctypes.Structure):
                 ('bytes', ctypes.c_void_p)]
 
     def view(self, length: int) -> memoryview:
-        """Returns a view of the first `length` bytes, which stay as long as a view of them
-        exists. Nothing is copied, and any length is possible, unlike with string_at, whose length
-        is a C int."""
+        """Returns a view of the first `length` bytes, which exist as long as a view of them does. Copies nothing.
+        Any length is possible, unlike with string_at, whose length is a C int."""
         data = array(length).from_address(self.bytes)
         data.image = self
         return memoryview(data).cast('B').toreadonly()
@@ -133,8 +131,8 @@ PROTOTYPES: dict[str, tuple[Any, ...]] = {  # the result of each call, and its a
 
 
 def not_found(why: OSError) -> ImportError:
-    """Returns an error with the library that was searched, the places of the search, and the
-    libraries of this name that exist."""
+    """Returns an error with the library that was searched for, the places of the search, and the libraries of this
+    name that exist."""
     named = os.environ.get('LD_LIBRARY_PATH')
     folders = [*filter(None, (named or '').split(':')), '/usr/local/lib',
                f'/usr/lib/{os.uname().machine}-linux-gnu', '/usr/lib64', '/usr/lib']

@@ -60,7 +60,7 @@ def answer(spelt):
 
 
 def cases():
-    """Yields every case of every list, except the cuts of a file, of which one line has many."""
+    """Yields every case of every list, except the cuts of a file: one line has many of them."""
     for path in sorted(DATA.glob('*.txt')):
         for count, line in enumerate(path.read_text().splitlines(), 1):
             found = re.fullmatch(r'(\w+) (.*?) (=/?>) (.*)', line)

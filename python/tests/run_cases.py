@@ -1,10 +1,9 @@
-"""Runs the stored cases for which the module has calls, and compares the answers and the disk's
-bytes.
+"""Runs the stored cases for which the module has calls, and compares the answers and the disk's bytes.
 
-    python3 run_cases.py [FOLDER]
+python3 run_cases.py [FOLDER]
 
-FOLDER is where disks are made. An answer is converted to what the program prints: its text, without
-the lines `object`, which an image of the module doesn't have, and its exit status.
+FOLDER is the folder in which disks are made. An answer is converted to the program's output: its text, without the
+lines `object`, which an image of the module doesn't have, and its exit status.
 """
 
 import collections
@@ -60,7 +59,7 @@ def without_objects(text):
 
 
 def told(call):
-    """Returns the text that the program prints for the result of a call, and its exit status."""
+    """Returns the program's output for the result of a call, and its exit status."""
     try:
         text = call()
     except (rlibreg.Error, OSError) as error:
@@ -72,7 +71,7 @@ def told(call):
 
 
 def ask(registry, command, words):
-    """Returns what the program prints of a command on an open registry."""
+    """Returns the program's output for a command on an open registry."""
     if command == 'list':
         return listing_text(registry.list())
     if command == 'bind':
@@ -83,8 +82,7 @@ def ask(registry, command, words):
 
 
 def test_all(registry):
-    """Tests each library, as the program does when it opens a disk. The module doesn't do so by
-    itself."""
+    """Tests each library, as the program does when it opens a disk, and as the module doesn't."""
     if any(finding.number for _, finding in registry.check()):
         error = rlibreg.Refusal()
         error.number, error.text = Status.DAMAGED, 'refused S5 Damaged'
@@ -114,7 +112,7 @@ def asked(line):
 
 
 def run_lines(registry, script):
-    """Returns the replies to a script's lines, and how many lines were refused."""
+    """Returns the replies to a script's lines, and the number of refused lines."""
     replies, statuses = [], [0]
     for line in script.decode('latin-1').splitlines():
         reply, status = told(functools.partial(ask, registry, *asked(line)))
@@ -124,8 +122,8 @@ def run_lines(registry, script):
 
 
 def update_by(registry, lines):
-    """Returns the replies to the lines of an update. The tool refuses at the line itself, and the
-    module later, with the number of the change."""
+    """Returns the replies to the lines of an update. The tool refuses a line immediately. The module refuses it
+    later, with the number of the change."""
     replies, changes = [], []
     try:
         with registry.update() as update:
@@ -317,7 +315,7 @@ def byte_on(case, disk):
 
 
 def library_on(case, disk):
-    """`library FILE => ANSWER`: the finding on the file, in place of a library `b`."""
+    """`library FILE => ANSWER`: the finding for the file, if it is in the place of a library `b`."""
     data = file(' '.join(case.words))
     if not (64 <= len(data) <= 1 << 24 and case.holds):
         raise NotMapped  # no library of that length is installed; other names are found to be the same

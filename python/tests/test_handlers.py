@@ -67,9 +67,8 @@ class Handlers(OnDisk):
                 wrong.append((found, answer))
 
     def strike(self, call):
-        """Makes the handler of a signal run `call` one millisecond after the last run, until the
-        test ends. Returns a function that returns whether to go on: for some seconds, and until
-        there were enough calls."""
+        """Makes the handler of a signal run `call` one millisecond after each run, until the test ends. Returns a
+        function that returns whether to continue: for some seconds, and until there were enough calls."""
         def handler(*_):
             try:
                 call()
@@ -190,7 +189,7 @@ class Handlers(OnDisk):
         self.assertEqual((wrong, len(closed)), ([], 80))
 
     def test_a_child_of_a_handler_closes(self):
-        """A child that a handler makes within a call also makes the rest of that call."""
+        """A handler makes a child within a call. The child, too, completes the call."""
         children = []
 
         def handler():
@@ -260,7 +259,7 @@ class Streams(OnDisk):
         return disk.read_bytes()
 
     def test_closed_streams(self):
-        """Printed text doesn't go into a disk that would have the number of a closed stream."""
+        """Printed text isn't written into a disk, although the disk would get the number of a closed stream."""
         with Registry(self.disk, read_write=True) as registry:
             registry.install(LIBRARY)
         for closed in ('0', '1', '2', '012'):
@@ -276,7 +275,7 @@ class Streams(OnDisk):
 
 class Ends(OnDisk):
     def test_the_end_of_python(self):
-        """Python ends with a registry that is open, in a circle, and in use by two threads."""
+        """Python ends with an open registry that is in a reference cycle and in use by two threads."""
         with Registry(self.disk, read_write=True) as registry:
             registry.install(LIBRARY)
         for _ in range(3):

@@ -1,7 +1,6 @@
-"""Tests of the module that no stored case can express: its types, its errors, locks, processes,
-threads and memory.
+"""Tests of the module that no stored case can express: its types, its errors, locks, processes, threads and memory.
 
-    python3 -m unittest test_module
+python3 -m unittest test_module
 """
 
 import copy
@@ -40,7 +39,7 @@ def leave_namespace():
 
 
 def spelt(name):
-    """Returns a name as the program prints it."""
+    """Returns a name in the program's format."""
     data = name.encode('utf-8', 'surrogateescape')
     plain = [chr(b) if 0x21 <= b <= 0x7e and b != 92 else f'\\x{b:02x}' for b in data]
     return ''.join(plain) or '\\e'
@@ -379,8 +378,7 @@ class Updates(OnDisk):
         self.assertEqual(self.state(), before)
 
     def test_memory_that_is_refused(self):
-        """A process that may have only a little more memory is refused the memory that a long disk
-        needs."""
+        """A process that may have only a little more memory can't get the memory for a long disk."""
         self.disk.unlink()
         rlibreg.format(self.disk, 1 << 19)
 
@@ -592,7 +590,7 @@ class Contents(OnDisk):
                 self.assertRaises(TypeError, call, registry)
 
     def test_each_library_has_its_bytes(self):
-        """Installs each stored library, by itself on the disk."""
+        """Installs each stored library as the only library of a disk."""
         count = 0
         with Registry(self.disk, read_write=True) as registry:
             for path in sorted(DATA.glob('*.so')):
@@ -693,8 +691,7 @@ class Contents(OnDisk):
             self.assertEqual({finding.text for _, finding in registry.check()}, {'ok'})
 
     def test_another_thread_removes_what_is_put(self):
-        """No other call is made between the parts of `put`, even if another thread waits to make a
-        call."""
+        """No other call is made between the parts of `put`, even if another thread waits to make one."""
         with Registry(self.disk, read_write=True) as registry:
             registry.install(LIBRARY)
             handle, thread = registry._handle, threading.Thread(target=registry.remove, args=('b',))
@@ -732,8 +729,7 @@ class Contents(OnDisk):
                                        'B1'})
 
     def is_told(self, form, path, given):
-        """Checks that the tool has the same output and messages. Records which lines, or which
-        refusals, occurred."""
+        """Checks that the tool has the same output and messages. Records the lines, or the refusals, that occurred."""
         if isinstance(given, rlibreg.Bindings):
             self.assertEqual(given.text, bindings_text(given))
             wanted = given.text.encode(), '', int(given.status != Status.DONE)
@@ -792,7 +788,7 @@ class Contents(OnDisk):
         self.assertRaises(rlibreg.Closed, list, registry.dump())
 
     def test_a_dump_is_cut(self):
-        """A dump is cut at the first library that is damaged, and if nothing can be read."""
+        """A dump is cut at the first library that is damaged or can't be read."""
         self.two_are_there()
         self.damage()
         with Registry(self.disk) as registry:
@@ -815,8 +811,7 @@ class Contents(OnDisk):
             self.assertEqual(self.dumped(registry, Status.OLD_FORMAT), b'cut')
 
     def test_a_dump_of_what_changes(self):
-        """A dump has the libraries of one state, or ends. Changes that are refused meanwhile have
-        no effect on it."""
+        """A dump has the libraries of one state, or ends early. Refused changes during a dump have no effect on it."""
         self.two_are_there()
         with Registry(self.disk, read_write=True) as registry:
             wanted = b''.join(registry.dump())
@@ -904,7 +899,7 @@ class Memory(OnDisk):
         self.assertEqual([it.name for it in image.objects], ['/program', 'b'])
 
     def test_nothing_is_lost(self):
-        """Neither memory nor files are lost, whether calls succeed or are refused."""
+        """No memory and no file is lost, whether calls succeed or are refused."""
         with Registry(self.disk, read_write=True) as registry:
             registry.install(LIBRARY)
             self.is_kept(100, lambda: registry.bind(PROGRAM, 0x10000))
@@ -925,8 +920,8 @@ class Memory(OnDisk):
             self.is_kept(2000, lambda: self.refused(Status.LOCKED, Registry, self.disk))
 
     def is_kept(self, count, call):
-        """Checks that `count` calls need no more memory and files than fifty calls, or than the
-        same number of calls before. Python allocates its own memory in pieces of a MiB."""
+        """Checks that `count` calls need no more memory and files than fifty calls, or than the same number of
+        earlier calls. Python allocates its own memory in pieces of a MiB."""
         self.many(50, call)
         for _ in range(3):
             memory, files = self.in_use()

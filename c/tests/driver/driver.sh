@@ -1,5 +1,5 @@
-# Tests rlibreg-gcc: what it makes of a project's usual commands, what it refuses, and that the
-# loader runs its programs. The expected outputs of programs are written by hand from their sources
+# Tests rlibreg-gcc: the results of a project's usual commands, the refusals, and that the loader
+# runs its programs. The expected outputs of programs are written by hand from their sources
 # (programs/driver_*).
 
 if ! command -v musl-gcc > /dev/null; then
@@ -17,7 +17,7 @@ exported() {
     nm -D --defined-only "$1" 2> told | sed 's/^[^ ]* . //; /^_/d' | sort | tr '\n' ' '
 }
 # ends WHAT LEFT MESSAGE WORD..: checks that the driver ends with status 1, and that MESSAGE is its last
-# line. LEFT says what then becomes of an old output: `gone` or `old`.
+# line. LEFT is `gone` if the driver has to remove an old output, and `old` if the output has to stay.
 ends() {
     echo old > output
     want "$1" "$3
@@ -26,8 +26,8 @@ ends() {
 }
 refused() { ends "$1" gone "${@:2}"; }
 
-# Version scripts, with each linker and in each form: they decide what is exported, and no version
-# is left.
+# Version scripts, with each linker and in each form: they select the exports, and no version is
+# left.
 cat > two.map << 'END'
 # Two versions, the second of which has a pattern.
 TWO_1.0 { global: one; /* not
@@ -141,7 +141,7 @@ cmp static linked
 want 'a text' "$(musl-gcc -fPIC -E conftest.c)" "$($gcc -E conftest.c)"
 want 'a question' "$(musl-gcc -print-prog-name=ld)" "$($gcc -print-prog-name=ld)"
 
-# The kernel's headers are found. All other headers that are found are musl's.
+# The driver finds the kernel's headers. All other headers that it finds are musl's.
 cat > kernel.c << 'END'
 #include <linux/fs.h>
 int sharing = FICLONE != 0;

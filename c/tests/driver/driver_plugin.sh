@@ -1,4 +1,4 @@
-# A part of driver_threads.sh: tests what gcc makes with the plugin.
+# A part of driver_threads.sh: tests the files that gcc makes with the plugin.
 
 for linker in $linkers; do shares "gcc and $linker" $gcc $gcc $gcc -fuse-ld=$linker; done
 "$built/rlibreg-tool" executable thread.disk threads 0x10000000 > alone
@@ -27,7 +27,7 @@ want 'a malloc that has thread-local data' '100 bytes of thread 0
 212 bytes of thread 2
 = 0' "$(ended "$built/rlibreg-run" thread.disk ./memory)"
 
-# A library has no emulation of its own, even if it asks for one.
+# A library has no emulation of its own, even if its command names gcc's emulation (-lgcc_eh).
 $gcc -O1 -shared -o libthreads1.so driver_threads_one.o -lgcc_eh
 want 'the emulation of a library' '                 U __emutls_get_address' \
     "$(nm libthreads1.so | grep emutls_get_address)"

@@ -1,6 +1,6 @@
-# A part of driver.sh: tests what projects ask for while they are built: the C library in each spelling,
-# libraries of gcc and of the system, libraries that only other libraries need, headers of the kernel,
-# coverage, and the commands of build systems for a tree of folders.
+# A part of driver.sh: tests the requests of projects while they are built: the C library in each
+# spelling, libraries of gcc and of the system, libraries that only other libraries need, headers of the
+# kernel, coverage, and the commands of build systems for a tree of folders.
 
 # needs FILE: prints the names of the libraries that FILE needs.
 needs() {

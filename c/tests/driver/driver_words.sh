@@ -1,7 +1,7 @@
 # A part of driver.sh: tests words and names that a driver could read differently from gcc, or pass
 # to awk and sed.
 
-# gcc decides what words ask for: no word keeps the product from reading what is linked.
+# gcc decides what words mean: no word keeps the product from reading the linked file.
 for words in '-dumpdir -c' '-dumpbase -E' '-dumpbase-ext .s' -dA '-MD -MT -M' '-I -S' -Wl,-rpath,-r \
     '-Xlinker -rpath -Xlinker --version' '-o other'; do
     refused "$words" "$indirect" $gcc -shared indirect.c $words
@@ -98,7 +98,7 @@ else
     echo "skipped: a file as /dev/stdout ($(cat told))"
 fi
 
-# Files of words are read as gcc reads them, also those for the linker.
+# The driver reads files of words as gcc does, even those for the linker.
 cat > words.c << 'END'
 A B C D E
 END
@@ -157,7 +157,7 @@ ends 'two halves of a script' old "$gcc: half.map: it ends within a version" \
 ends 'a folder in the place of a script' old "$gcc: folder: it can't be read" \
     $gcc -shared plain.c -Wl,--version-script=folder
 
-# A folder of temporary files that doesn't exist: the driver then uses another one, as gcc does.
+# A folder of temporary files that doesn't exist: the driver then uses another folder, as gcc does.
 # After that, folders without room for temporary files, or for a registry.
 TMPDIR=/none $gcc -shared plain.c -o libone.so
 want 'another folder of temporary files' 'one ' "$(exported libone.so)"

@@ -124,7 +124,7 @@ static void try_steps(struct call it, uint64_t steps) {
     WANT(answer.count == steps);
 }
 
-/* Checks a refusal, with room of every size for its text. */
+/* Checks a refusal, with buffers of every size for its text. */
 static void try_refusal(struct call it, uint32_t wanted, const char *line) {
     static uint8_t out[ROOM];
     for (size_t room = 0; room <= strlen(line) + 1; room++) {
@@ -154,7 +154,7 @@ static void try_names(const char *name) {
     try_refusal(cut_behind, RLIBREG_BAD_ARGUMENT, "");
 }
 
-/* ---- Reading, with room of every size */
+/* ---- Reading, with buffers of every size */
 
 static void try_listing(uint64_t libraries, uint64_t preloads, uint64_t generation,
                         const char *names, size_t names_length, const char *said) {
@@ -214,7 +214,7 @@ static void try_digest(const char *name, const char *wanted) {
     check_guard(digest, RLIBREG_DIGEST_BYTES);
 }
 
-/* Asks for a name that no library has, with room of every size for the text. */
+/* Requests a name that no library has, with buffers of every size for the text. */
 static void try_no_file(const char *name, size_t length) {
     const char *line = "refused C3 NotInstalled\n";
     for (size_t room = 0; room <= strlen(line) + 1; room++) {
@@ -235,7 +235,7 @@ static void try_no_file(const char *name, size_t length) {
     }
 }
 
-/* Asks for names that no library has: malformed names, and names that resemble the name of a
+/* Requests names that no library has: malformed names, and names that resemble the name of a
  * library. */
 static void try_no_files(const char *name) {
     char names[1000];
@@ -258,7 +258,8 @@ static void try_info(rlibreg_information wanted) {
     check_guard(it, sizeof *it);
 }
 
-/* Checks that without a registry no call returns anything, and that only the text is written. */
+/* Checks that without a registry no call returns anything, and that each call writes only the
+ * text. */
 static void try_nothing_told(size_t length, uint32_t wanted, const char *line) {
     char text[64];
     rlibreg_answer answer;

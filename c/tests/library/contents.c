@@ -68,7 +68,7 @@ static void want_file(rlibreg *it, char name, const void *wanted, size_t length)
     free(bytes);
 }
 
-/* Checks that the library of this name and length has its bytes, as it was installed. */
+/* Checks that the library of this name and length has the bytes that were installed. */
 static void want_library(rlibreg *it, char name, size_t length) {
     *soname = (unsigned char)name;
     want_file(it, name, library, length);
@@ -119,9 +119,9 @@ static int put_byte(long at, int byte) {
     return before;
 }
 
-/* Checks that a damaged library is returned as it is, and that everything else can still be
- * returned. The data of the library are in sector 2, its entry in 3, and the catalogue in 4. The
- * sectors of another library follow. */
+/* Checks that the calls return a damaged library as it is, and still return everything else. The
+ * data of the library are in sector 2, its entry in 3, and the catalogue in 4. The sectors of
+ * another library follow. */
 static void try_damaged(void) {
     unsigned char damaged[SECTOR];
     rlibreg_listing listing;

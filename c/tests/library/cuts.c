@@ -161,7 +161,7 @@ static void try_disk(struct cuts *it, const uint8_t *disk) {
 }
 
 /* Tries the disks that the steps from `from` up to `to` may leave. Each sector that these steps
- * write has its content from before, or any content that these steps write to it. */
+ * write has its old content, or any content that these steps write to it. */
 static void try_mixtures(struct cuts *it, uint8_t *disk, size_t from, size_t to) {
     while (from < to && !it->steps->content[from]) from++;
     if (from == to) {

@@ -236,7 +236,7 @@ static struct outcome attempt(const struct change *change) {
     return it;
 }
 
-/* Makes a change that may have been made already. */
+/* Makes a change again, which may have been made before. */
 static void make_again(const struct change *change, int was_made) {
     uint32_t status = attempt(change).status;
     WANT(!status ||
@@ -257,7 +257,7 @@ static int is_right(const struct change *change, const struct outcome *it) {
         has_failed("system") || has_failed("mark-changes") || has_failed("unmark"))
         return !it->status; /* the change goes on without the call */
     if (has_failed("flags") && !it->status) return 1; /* flags of a stream */
-    if (change->opens) /* making.c knows more about each */
+    if (change->opens) /* making.c checks each of these calls in detail */
         return !it->status || ((it->status == RLIBREG_SYSTEM || it->status == RLIBREG_DEVICE) &&
                                (it->why == EIO || it->why == EAGAIN));
     if (has_failed("stat")) /* the path is opened again, or is reported as the name of another
@@ -389,7 +389,7 @@ static void find_usual(const struct change *change, uint32_t usual[LOOKS]) {
 }
 
 /* Makes each growth of memory fail, from the creation of the struct on. Checks that nothing was
- * done, and that later calls succeed. */
+ * changed, and that later calls succeed. */
 static long try_memory(const struct change *change) {
     uint32_t usual[LOOKS] = { 0 };
     if (!change->opens) find_usual(change, usual);

@@ -224,8 +224,8 @@ static int is_guarded(const void *buffer, size_t from, size_t to) {
     return 1;
 }
 
-/* Tries buffers of every size. If one is too small, nothing is written, and the answer has the
- * sizes that are needed. */
+/* Tries buffers of every size. If a buffer is too small, checks that nothing is written, and that
+ * the answer has the required sizes. */
 static void try_rooms(void) {
     const uint32_t wanted[LIBRARIES] = { 0 };
     for (size_t room = 0; room <= LIBRARIES + 1; room++)
@@ -283,7 +283,8 @@ static void try_refused(void) {
 
 /* ---- Numbers of libraries */
 
-/* Tries a registry without libraries, and one with more than there is room for at first. */
+/* Tries a registry without libraries, and a registry with more libraries than the first buffer has
+ * room for. */
 static void try_numbers(void) {
     rlibreg_findings found;
     rlibreg *it = formatted(512);

@@ -1,6 +1,6 @@
 /* front opens disks in the folder where it is run. The calls of the system are watched, and report
- * other roots on the medium than the system shows. The test checks what the library makes the
- * system drop, what it writes to the medium, and what it refuses. */
+ * other roots on the medium than the system shows. The test checks the drops that the library
+ * requests of the system, its writes to the medium, and its refusals. */
 #define _GNU_SOURCE
 #include "watched.h"
 
@@ -51,8 +51,8 @@ static void watch_differing(int differ, int keeps) {
     watched.keeps = keeps;
 }
 
-/* Checks that the library makes the system drop more and more, until the system reports that the
- * front is gone. Then does the same again. */
+/* Checks that the library makes the system drop longer and longer fronts, until the system reports
+ * that the front is gone. Then does the same again. */
 static void try_forgetting(void) {
     const int often[] = { 0, 1, 9, 10, 25 };
     for (size_t i = 0; i < sizeof often / sizeof *often; i++) {

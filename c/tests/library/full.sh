@@ -1,5 +1,5 @@
-# Tests a file with holes on a full file system in memory, where reading a hole through a map ends a
-# process: the library answers as the program does, and the file stays as it was.
+# Tests a file with holes on a full file system in memory. There a read of a hole through a map
+# would end a process. The library answers as the program does, and the file stays unchanged.
 
 skipped() {
     echo "full: $1: a full file system in memory is not tried"

@@ -64,8 +64,8 @@ want 'a change that waits for it' '' "$(cat waited)"
 let_go
 want 'after it has waited for it' ok "$(cat waited)"
 
-# A process that has locked the disk and then runs the program shuts it out; the lock of another file
-# makes it wait.
+# A process that has locked the disk and then runs the program shuts the program out. If the process
+# has locked another file, the program waits.
 want 'flock of the disk' "$shut_out" "$(ended flock disk "$rlibreg" list disk)"
 held_by flock disk.lock ./tool hold list disk
 flock disk.lock "$rlibreg" remove disk b > waited 9>&- &

@@ -82,8 +82,8 @@ static void try_faults(unsigned flags) {
         unwatch();
         if (n >= watched.calls) break;
         WANT(!status || (status == RLIBREG_SYSTEM && why == EIO));
-        /* The path is opened once more, the opening goes on without the call, or nothing is left to
-         * do. */
+        /* the path is opened again, the opening continues without the call, or nothing is left to
+         * do */
         WANT(!status == !!strstr("stat attributes past unlock", watched.failed) ||
              (!status && strstr("flags system look mark-changes unmark", watched.failed)));
         WANT(!is_held("disk"));
@@ -263,7 +263,7 @@ static void try_devices(void) {
     WANT(!is_held("disk"));
 }
 
-/* Returns how many milliseconds pass until an opening gets a lock or gives up. The lock isn't free
+/* Returns the number of milliseconds until an opening gets a lock or gives up. The lock isn't free
  * for the first `times` tries. */
 static long waits(unsigned flags, int limit, const char *lock, long times, uint32_t wanted) {
     rlibreg *it = rlibreg_create();

@@ -129,8 +129,8 @@ static long try_meanwhile(void) {
     return tries;
 }
 
-/* Reads the disk by call number `number`. If the file was shortened, the call must read nothing
- * through the map. */
+/* Reads the disk by call number `number`. If the file was shortened, the call must not read through
+ * the map. */
 static uint32_t look_by(rlibreg *it, int number) {
     const rlibreg_change install = { RLIBREG_INSTALL, 0, library_length };
     rlibreg_listing listing;

@@ -1,6 +1,6 @@
 /* shared DISK is linked only with the shared library. It makes a disk and lists it. Then it prints
- * the names that the library has for the tests of a file, and what it returns for a number that no
- * test has. */
+ * the library's names of the tests of a file, and the library's answer to a number that no test
+ * has. */
 #include "rlibreg.h"
 
 #include <stdio.h>

@@ -50,7 +50,7 @@ static rlibreg *opens(const char *path, unsigned flags, int limit, uint32_t want
     return it;
 }
 
-/* Opens a disk, which has to return `wanted`. Returns how many seconds this takes. */
+/* Opens a disk, which has to return `wanted`. Returns the number of seconds that this takes. */
 static double time_of(const char *path, unsigned flags, int limit, uint32_t wanted) {
     double began = seconds();
     rlibreg *it = opens(path, flags, limit, wanted);
@@ -149,7 +149,7 @@ static void read_at_once(void) {
     rlibreg_close(opens("disk", 0, NO_LIMIT, RLIBREG_DONE));
 }
 
-/* Returns whether a reader has to give way, as the mark shows. */
+/* Returns whether the mark requests readers to give way. */
 static int is_marked(void) {
     int fd = open("disk", O_RDONLY | O_CLOEXEC);
     struct flock it = { .l_type = F_RDLCK, .l_start = (off_t)1 << 62, .l_len = 1 };

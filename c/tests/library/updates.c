@@ -237,8 +237,8 @@ static uint32_t replace(rlibreg *it) {
     return rlibreg_replace(it, other.bytes, other.length);
 }
 
-/* Checks that an update makes the same number of syncs, and one generation, however many changes it
- * has. */
+/* Checks that an update of any number of changes makes the same number of syncs, and one
+ * generation. */
 static void try_many(void) {
     char wanted[64];
     rlibreg *it = formatted(SECTORS);

@@ -124,8 +124,8 @@ static void *update(void *unused) {
     return unused;
 }
 
-/* Checks that threads can update the disk at once: each waits for the others, also for the one that
- * makes the disk, and succeeds. */
+/* Checks that threads can update the disk at the same time. Each thread waits for the others, even
+ * for the thread that makes the disk, and succeeds. */
 static void try_threads(void (*leave)(void)) {
     int status;
     leave();

@@ -226,8 +226,8 @@ WRAPPED(int, fcntl, int fd, int what, ...) {
 
 int __real_mincore(void *from, size_t length, unsigned char *kept);
 
-/* Returns whether a page of memory was written already. Some file systems don't read the medium
- * into a page that wasn't. */
+/* Returns whether a page of memory was already written. Some file systems don't read the medium
+ * into a page that was never written. */
 static int is_there(void *page) {
     unsigned char kept;
     return !__real_mincore(page, 1, &kept) && kept & 1;

@@ -27,8 +27,8 @@ struct watched {
                                * blank */
     long calls;               /* number of calls, including those that only look */
     long first, second;       /* numbers of two calls that fail, counted from 0; -1 for none */
-    int why;                  /* errno with which they fail */
-    char failed[32];          /* word of the call that failed last */
+    int why;                  /* errno of these failures */
+    char failed[32];          /* word of the last call that failed */
     long end;                 /* number of the call before which the process ends; -1 for none */
     int end_status;           /* exit status of the process then */
     const char *refused;      /* word of calls that fail */
@@ -54,10 +54,10 @@ struct watched {
     long system;              /* type of the file system that is reported; or 0 */
     int is_read_only;         /* whether it is reported to be mounted read-only */
     int64_t slept;            /* number of nanoseconds of all requested sleeps */
-    int is_short;             /* whether each write does less than it is asked to */
+    int is_short;             /* whether each write writes fewer bytes than requested */
     int is_dirty;             /* whether a file was written or shortened since the last sync */
     int wipes_nothing;        /* whether the kernel refuses MADV_WIPEONFORK */
-    int watches_no_forks;     /* whether a handler of forks is refused for want of memory */
+    int watches_no_forks;     /* whether the system refuses memory for a handler of forks */
 
     /* The function that is called before each watched call, or null. */
     void (*before)(const char *word);

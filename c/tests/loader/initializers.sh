@@ -8,8 +8,8 @@ compile="$compile -Wl,--hash-style=sysv"
 rm -f disk many
 ./tool format disk 512 > /dev/null
 
-# library NAME NEEDED..: makes a library of stage.c, which needs NEEDED; for a circle, the needed
-# libraries are made first. It is linked with the words in `asks` too.
+# library NAME NEEDED..: makes a library of stage.c, which needs NEEDED. (In a circle, the needed
+# libraries are made first.) Also links it with the words in `asks`.
 library() {
     local name=$1 flags=-Wl,-init,first,-fini,last,--no-as-needed
     shift

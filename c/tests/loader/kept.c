@@ -212,8 +212,8 @@ static uint64_t sound_file(uint8_t *bytes, size_t room) {
     return head.length;
 }
 
-/* Returns whether a file would be used. Checks the file as the loader does, in memory that ends
- * where the beginning ends. */
+/* Returns whether the loader would use a file. Checks the file as the loader does, in memory that
+ * ends where the beginning ends. */
 static int is_used(const uint8_t *bytes, uint64_t length) {
     struct head head;
     if (length < sizeof head) return 0;
@@ -317,7 +317,7 @@ static void try_changes(const uint8_t *sound, uint64_t length) {
     free(bytes);
 }
 
-/* Checks that each changed byte of a beginning changes its check, unless the byte is part of the
+/* Checks that a change of any byte of a beginning changes its check, unless the byte is part of the
  * form or of the check. */
 static void try_check(const uint8_t *sound, uint64_t length) {
     uint8_t *bytes = malloc(length);

@@ -46,8 +46,8 @@ for _ in 1 2 3; do start 'a start again' "$taken" "$said" disk ./chain; done
 cmp "$image" copy
 want 'binds where an image is taken' "$said" "$(BINDS=1 ended ./run-kept -c kept disk ./chain)"
 [ "$(stat -c %s "$image")" -lt 200000 ] || { echo "1.2 MB of zeros are in $image" >&2; exit 1; }
-# open_of COMMAND..: prints how many files a running program has open, and how many of its maps are
-# shared.
+# open_of COMMAND..: prints the number of open files of a running program, and the number of its
+# shared maps.
 open_of() {
     held_by "$@" /dev/stdin
     until grep -q '^list$' held.out; do sleep 0.01; done # it has opened all its files
@@ -60,7 +60,7 @@ for run in ./run-taken "./run-kept -c kept" "./run-kept -c kept" "$built/rlibreg
     want "what a program has by $run" "$usual" "$(open_of $run disk ./place)"
 done
 rm kept/*
-# shared: prints how many maps of an image are maps of its file.
+# shared: prints the number of an image's maps that are maps of its file.
 shared() {
     ./run-kept -c kept disk ./place | grep -cE '^([0-3][0-9a-f]{11}|[0-9a-f]{8,11})-.*/kept/'
 }
@@ -78,7 +78,7 @@ for said_of_it in "$none$keeps" "$taken" "$taken"; do
 done
 rm kept/*
 
-# A disk, and a program, that are changed in place with equal roots, length and time.
+# A disk, and then a program, changed in place; the roots, the length and the time stay equal.
 start 'an image' "$none$keeps" "$said" disk ./chain
 cp -p disk before.disk
 cp -p chain before
@@ -99,7 +99,7 @@ cat before > chain
 start 'the program from before' "$other$keeps" "$changed" disk ./chain
 want 'images of one program' 1 "$(ls -A kept | wc -l)"
 
-# On tmpfs a write through a map changes no time.
+# On tmpfs, a write through a map doesn't change the time.
 if [ "$(stat -f -c %T .)" = tmpfs ]; then
     gcc $flags -o mapped "$here/loader/mapped.c"
     held_by ./mapped disk before.disk

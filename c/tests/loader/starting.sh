@@ -1,5 +1,5 @@
-# Tests what rlibreg-run does before a program runs: its arguments, files, addresses and permissions, and
-# its reports about the program. The programs are those of gcc's usual linker.
+# Tests rlibreg-run before a program runs: its arguments, files, addresses and permissions, and its
+# reports about the program. The programs are those of gcc's usual linker.
 
 programs=$here/programs
 compile='command gcc -g -O1 -fPIC -nostdlib -fno-stack-protector -fno-asynchronous-unwind-tables'
@@ -214,7 +214,7 @@ case $found in
 = 126' "$found" ;;
 esac
 
-# What the system and a debugger find out about the program.
+# The names and files of the program that the system and a debugger report.
 cp place a-program-of-a-long-name
 want 'the name' place "$(./rlibreg-run disk ./place | head -1)"
 want 'a long name' a-program-of-a- "$(./rlibreg-run disk a-program-of-a-long-name | head -1)"

@@ -1,4 +1,4 @@
-# Runs the tests of the loader once more, each start from an image that was kept just before.
+# Runs the tests of the loader again. Each start uses an image that was kept just before.
 
 mkdir -m 700 twice twice/kept
 ln tool run-kept run-taken within twice/

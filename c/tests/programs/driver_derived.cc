@@ -1,4 +1,4 @@
-/* A class that is derived from one of another library, and a static object. */
+/* A class derived from a class of another library, and a static object. */
 #include "driver_shapes.h"
 
 namespace {

@@ -1,6 +1,6 @@
-/* Operators new and delete. g++ declares some of them itself; without C++'s headers the others are
- * declared here. With an argument, the program asks for the impossible block of that number.
- * Without an argument, it asks for possible blocks. */
+/* Operators new and delete. g++ declares some of them itself; without C++'s headers, this file
+ * declares the others. With an argument, the program requests the impossible block of that number.
+ * Without an argument, it requests possible blocks. */
 typedef decltype(sizeof 0) size;
 namespace std {
 enum class align_val_t : size {};

@@ -1,4 +1,5 @@
-/* A program that opens the libraries that it is bound to, and prints what it finds in them. */
+/* A program that opens the libraries that it is bound to, looks up names in them, and prints the
+ * results. */
 #define _GNU_SOURCE
 #include <dlfcn.h>
 #include <link.h>

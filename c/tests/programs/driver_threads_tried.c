@@ -104,7 +104,7 @@ static void try_threads(void) {
     if (made < 10000) printf("%ld threads, not 10000\n", made);
 }
 
-/* Threads that have ended leave no memory. */
+/* Threads that have ended keep no memory. */
 static void *touch(void *given) {
     for (size_t at = 0; at < 100; at++) *(char *)__emutls_get_address(&objects[at]) = 1;
     return given;
@@ -120,7 +120,7 @@ static void try_memory(void) {
     wrong += pages() > before + 100;
 }
 
-/* A child of fork(2) makes copies, whatever other threads were doing. */
+/* A child of fork(2) makes copies, even if other threads were making copies during the fork. */
 static void *make_threads(void *given) {
     pthread_t thread;
     while (!is_over)
@@ -156,7 +156,7 @@ static void try_fork(void) {
     for (int at = 0; at < 2; at++) pthread_join(threads[at], NULL);
 }
 
-/* A handler of signals makes copies while its thread does. */
+/* A handler of signals makes copies while its thread makes copies too. */
 static void *seen[OBJECTS];
 static volatile size_t current = OBJECTS, signals;
 static void handle(int signal) {

@@ -1,5 +1,5 @@
-/* A program that needs libraries of named.c: it prints which of them were initialized before it,
- * and a line at its own beginning and end. */
+/* A program that needs libraries of named.c. It prints the names of those that were initialized
+ * before it, and a line at its own beginning and end. */
 #include <stdio.h>
 
 int a(void), b(void);

@@ -11,9 +11,9 @@ pub record IsLone {D : Type 0} (binders : Slotted D) (placed : PlacedEntry) : Ty
   pub hold : IsHeldBy binders.registry.held placed.at placed
   pub unlisted : Contains binders.registry.entries placed → ⊥
 
--- `holds` lists each byte string that only binders hold. It lists the byte string once, however many
--- binders hold it. Besides the sectors of the state, exactly the sectors of these byte strings aren't
--- free.
+-- `holds` lists each byte string that only binders hold. It lists such a byte string once, even if
+-- several binders hold it. The sectors that aren't free are exactly those of the state and those of
+-- these byte strings.
 pub record CountsOnce {D : Type 0} (binders : Slotted D) : Type 0 where
   pub holds : List PlacedEntry
   pub once : AllPairs (λ a b. a.at ≢ b.at) holds

@@ -35,7 +35,7 @@ happening_of (event.Begin program base) = begin program.now base
 happening_of (event.Advance slot) = advance slot
 happening_of (event.Cancel slot) = cancel slot
 
--- A command was applied to a registry, whatever binders it has. The binders stay on their flights.
+-- A command was applied to a registry with any binders. The binders stay on their flights.
 pub record AppliesIn {D : Type 0} (facts : D → DiskFacts) (old new : Slotted D) (request : Request) (answer : Reply) : Type 0 where
   pub applied : (s : State) → IsAt facts old.registry s → Applies facts old.registry new.registry s request answer
   pub all_calls : (s : State) → IsAt facts old.registry s

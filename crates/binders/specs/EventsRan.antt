@@ -13,7 +13,7 @@ use Rattle.binders.specs.Slotted.{Slotted}
 use Rattle.binders.specs.declared.event.EventReply.{EventReply}
 use Rattle.binders.specs.declared.event.EventReply.TheVariants.{Replied}
 
--- an event and its reply as an exchange: either a command with its reply, or a request for no change of
+-- an event and its reply as an exchange: a command with its reply, or a request for no change of
 -- the state
 abbrev pub exchange_of : Happening → EventReply → Exchange
 exchange_of (apply request) (Replied answer) = answered (command request) answer
@@ -35,10 +35,11 @@ pub record EventStep {D : Type 0} (facts : D → DiskFacts) (old : Slotted D) (h
 pub record EventsRan {D : Type 0} (facts : D → DiskFacts) (old new : Slotted D) (happenings : List Happening) (replies : List EventReply) : Type 0 where
   -- the registry with its binders after each event
   pub passed : List (Slotted D)
-  -- each event had its effect on the registry with binders that the event before it left
+  -- each event had its effect on the registry with binders after the previous event
   pub steps : Steps (EventStep facts) old happenings replies passed
   pub last : new ≡ last_of old passed
-  -- If the registry is at a state, a stop at any moment leaves the state after accepted commands. These
-  -- commands include every command that was acknowledged by then, whatever binders there are.
+  -- If the registry is at a state, a stop at any moment leaves the state after accepted commands.
+  -- These commands include every command that was acknowledged before that moment. This holds for
+  -- any binders.
   pub runs : (s : State) → IsAt facts old.registry s
       → RunsThrough facts old.registry (map (λ (b : Slotted D). b.registry) passed) new.registry s (exchanges happenings replies)

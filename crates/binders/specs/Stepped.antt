@@ -33,21 +33,22 @@ FlyOn facts old new = (flights : List (Option Flight)) → AreOn facts old fligh
 abbrev pub IsPut : List (Option Binding) → ℕ → List (Option Binding) → Type 0
 IsPut old slot new = (binder : Binding) × (new ≡ slice_set old slot (Some binder))
 
--- the flights of the binders after one was begun: a new flight, in the lowest free slot
+-- the flights of the binders after another binder began: it has a new flight, in the lowest free
+-- slot
 abbrev pub BegunIn : {D : Type 0} → (D → DiskFacts) → Slotted D → Slotted D → List ℕ
     → ℕ → State → List (Option Flight) → Result ℕ Refusal → Type 0
 BegunIn facts old new program base s flights (Ok slot) = (lowest_free old.slots ≡ Some slot)
     × AreOn facts new (slice_set flights slot (Some (begun program base s)))
 BegunIn facts old new program base s flights (Err refusal) = AreOn facts new flights
 
--- A binder was begun in a slot, or it was refused with S2, C7 or S11. The refusal is S2 if and only if a
+-- A binder began in a slot, or was refused with S2, C7 or S11. The refusal is S2 if and only if a
 -- write or a sync has failed. Otherwise it is C7 if and only if each slot has a binder.
 pub record BeginsIn {D : Type 0} (facts : D → DiskFacts) (old new : Slotted D) (program : List ℕ) (base : ℕ) (result : Result ℕ Refusal) : Type 0 where
   pub ok : (s : State) (flights : List (Option Flight)) → IsAt facts old.registry s
       → AreOn facts old flights → BegunIn facts old new program base s flights result
   pub stays : StaysAt facts old new
-  -- on any disk: no call of the disk is made, one slot gets a binder or the slots are unchanged, and the
-  -- other binders stay on their flights
+  -- on any disk: no call of the disk is made, a slot gets a binder or the slots are unchanged, and
+  -- the other binders stay on their flights
   pub slots : IfOk result (λ slot. (lowest_free old.slots ≡ Some slot) × IsPut old.slots slot new.slots)
   pub err : OnErr result ((new.slots ≡ old.slots) × FlyOn facts old new)
   pub failed : IsTrue old.registry.failed → new ≡ old
@@ -57,8 +58,8 @@ pub record BeginsIn {D : Type 0} (facts : D → DiskFacts) (old new : Slotted D)
   pub no_slot : (result ≡ Err NoSlot) ↔ (IsFalse old.registry.failed × (lowest_free old.slots ≡ None))
   pub refusals : IfErr result (λ e. (e ≡ Reopen) ⊎ (e ≡ NoSlot) ⊎ (e ≡ OutOfMemory))
 
--- the flights of the binders after one binder made a step: that binder's flight is one step further, has
--- ended with the bind's answer, or is unchanged
+-- the flights of the binders after one binder made a step: that binder's flight is one step
+-- further, has ended with the bind's answer, or is unchanged
 abbrev pub SteppedIn : {D : Type 0} → (D → DiskFacts) → Slotted D → Slotted D → ℕ
     → List (Option Flight) → Flight → Result Step Refusal → Type 0
 SteppedIn facts old new slot flights flight (Ok Going) = (flight.going < goings flight) × AreOn facts new (slice_set flights slot (Some (further flight)))
@@ -81,13 +82,13 @@ pub record AdvancesIn {D : Type 0} (facts : D → DiskFacts) (old new : Slotted 
       → slice_index_or flights slot None ≡ Some flight → SteppedIn facts old new slot flights flight result
   pub bounds : (flights : List (Option Flight)) (flight : Flight) → AreOn facts old flights
       → slice_index_or flights slot None ≡ Some flight → IsBounded flight
-  -- During the step, a stop leaves only sectors that a stop could leave before the step. After the step,
-  -- a stop may leave exactly these sectors.
+  -- During the step, a stop leaves only sectors that a stop could leave before the step. After the
+  -- step, a stop may leave exactly the same sectors.
   pub any_moment : IsTrue (facts old.registry.disk).honest
       → LeavesOnly (facts old.registry.disk) (facts new.registry.disk) (Mixture (facts old.registry.disk))
   pub unchanged : IsTrue (facts old.registry.disk).honest → IsUnchanged (facts old.registry.disk) (facts new.registry.disk)
   pub stays : StaysAt facts old new
-  -- the following holds on any disk
+  -- the clauses from here on hold on any disk, honest or not
   pub no_binder : (result ≡ Err NoSuchBinder) ↔ (slice_index_or old.slots slot None ≡ None)
   pub absent : slice_index_or old.slots slot None ≡ None → new ≡ old
   pub present : slice_index_or old.slots slot None ≢ None → SlotsAfter old.slots slot new.slots result
@@ -97,8 +98,8 @@ pub record AdvancesIn {D : Type 0} (facts : D → DiskFacts) (old new : Slotted 
   pub answers : IfOk result IsLastStep
   pub calls : AreCalls (facts old.registry.disk) (facts new.registry.disk)
 
--- The binder in a slot was ended. If the slot has no binder, the answer is C8; otherwise it is Done. No
--- call of the disk is made.
+-- The binder in a slot was ended. The answer is C8 if the slot has no binder, and Done otherwise.
+-- No call of the disk is made.
 pub record CancelsIn {D : Type 0} (facts : D → DiskFacts) (old new : Slotted D) (slot : ℕ) (answer : Reply) : Type 0 where
   pub ok : (flights : List (Option Flight)) → AreOn facts old flights → AreOn facts new (slice_set flights slot None)
   pub stays : StaysAt facts old new

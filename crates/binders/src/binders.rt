@@ -6,8 +6,8 @@ use sector_disk::Disk;
 use std::alloc::Global;
 use std::marker::Model;
 
-/// A registry with up to 8 binders. Each binder binds a program, step by step, against the registry
-/// as it was when the binder was begun. No binder is kept when the disk is opened again.
+/// A registry with up to 8 binders. Each binder binds a program, step by step, with the registry as
+/// it was when the binder began. Opening the disk again ends all binders.
 pub struct Binders<D: Disk> {
     pub(crate) alloc: Global,
     registry: Registry<D>,
@@ -52,7 +52,7 @@ impl<D: Disk> Binders<D> {
     }
 
     /// Returns whether a write or a sync has failed. If so, commands, `begin` and the steps of
-    /// binders return S2 until the disk is opened again.
+    /// binders are refused with S2 until the disk is opened again.
     pub fn has_failed(&self) -> bool
         ensures value { result ≡ self.now.registry.failed }
     {
@@ -61,7 +61,7 @@ impl<D: Disk> Binders<D> {
 
     /// Does nothing. The first clause states that, on any disk and after any event, each held byte
     /// string has one row. The second states that no byte string is held if there is no binder and
-    /// nobody else holds one.
+    /// nobody else holds a byte string.
     pub fn holds_are_sound(&self)
         ensures holds { AreHolds self.now.registry }
         ensures empty { HoldAlone self.now → All (λ slot. slot ≡ None) self.now.slots
@@ -70,8 +70,8 @@ impl<D: Disk> Binders<D> {
         self.registry.holds_are_sound();
     }
 
-    /// Returns the registry. Its binders are dropped, and the byte strings that they hold stay held
-    /// until the disk is opened again.
+    /// Returns the registry and drops its binders. The byte strings that they hold stay held until
+    /// the disk is opened again.
     pub fn into_registry(self) -> Registry<D>
         ensures { result ≡ self.registry }
     {
@@ -83,7 +83,7 @@ impl<D: Disk> Binders<D> {
         registry
     }
 
-    /// Applies a command, as `Registry::apply` does. The binders stay on their flights.
+    /// Applies a command in the same way as `Registry::apply`. The binders stay on their flights.
     pub fn apply(&mut self, command: &Command<'_>) -> Reply
         ensures applied { (s : State) → IsAt D.facts self.old.registry s
             → Applies D.facts self.old.registry self.new.registry s (request_of command.now)
@@ -97,8 +97,8 @@ impl<D: Disk> Binders<D> {
         ensures slots { self.new.slots ≡ self.old.slots }
         ensures alone { HoldAlone self.old → HoldAlone self.new }
 
-        // The test for S7 counts the sectors of the state, and also the sectors of each byte string
-        // that only binders hold. It counts the byte string once, however many binders hold it.
+        // The test for S7 counts the sectors of the state, and those of each byte string that only
+        // binders hold. It counts such a byte string once, even if several binders hold it.
         ensures counted { HoldAlone self.old → CountsOnce self.old }
     {
         self.registry.holds_are_sound();
@@ -123,9 +123,9 @@ impl<D: Disk> Binders<D> {
     }
 
     /// Makes the next step of the binder in `slot`. Tests for C8 and then for S2. The first step
-    /// tests the program by itself, each following step reads and admits one library, and the last
-    /// step binds. After the last step the slot is free. After S1, S2 and S11 the binder is
-    /// unchanged.
+    /// tests the program without its libraries, each later step reads and admits one library, and
+    /// the last step binds the program. After the last step, the slot is free. After S1, S2 and
+    /// S11, the binder is unchanged.
     pub fn advance(&mut self, slot: usize) -> Result<Step, Refusal>
         ensures { AdvancesIn D.facts self.old self.new slot result }
     {
@@ -149,8 +149,9 @@ impl<D: Disk> Binders<D> {
         }
     }
 
-    /// Ends the binder in `slot`; afterwards the slot is free. Returns Done, also after S2. If the
-    /// slot has no binder, returns C8. Allocates nothing, and makes no call of the disk.
+    /// Ends the binder in `slot`, and frees the slot. Returns Done, even if an earlier write or
+    /// sync failed, or C8 if the slot has no binder. Allocates nothing, and makes no call of the
+    /// disk.
     pub fn cancel(&mut self, slot: usize) -> Reply
         ensures { CancelsIn D.facts self.old self.new slot result }
     {

@@ -25,7 +25,7 @@ pub enum EventReply {
     /// The reply to a command, the last answer of a binder, Done for a cancelled binder, or a
     /// refusal.
     Replied(Reply),
-    /// The slot of the binder that was begun.
+    /// The slot of the new binder.
     Slot(usize),
     /// The binder has more steps to make.
     Going,

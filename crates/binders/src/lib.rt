@@ -1,8 +1,8 @@
-//! Binders: programs are bound step by step against a registry, while its libraries change.
+//! Binders: a registry binds programs step by step, while its libraries change.
 //!
-//! `Binders` has a registry and up to 8 binders. Each binder binds against the registry as it was
-//! when the binder was begun. `Binders::run_events` carries out commands and steps of binders in
-//! any order. specs/Slotted.antt defines which flights binders are on.
+//! `Binders` has a registry and up to 8 binders. Each binder binds with the registry as it was when
+//! the binder began. `Binders::run_events` carries out commands and steps of binders in any order.
+//! specs/Slotted.antt defines the flights of binders.
 #![tactic(auto)]
 
 mod binders;

@@ -11,7 +11,7 @@ impl<D: Disk> Binders<D> {
     ghost use Rattle.binders.specs.Events.{Happens, happening_of};
     ghost use Rattle.binders.specs.EventsRan.{EventStep, EventsRan};
 
-    /// Carries out `event`, and returns its one reply.
+    /// Carries out `event`, and returns its reply.
     pub fn happen(&mut self, event: &Event<'_>) -> EventReply
         ensures { EventStep D.facts self.old (happening_of event.now) result self.new }
     {
@@ -41,11 +41,11 @@ impl<D: Disk> Binders<D> {
     }
 
     /// Carries out `events` one after the other, and returns one reply for each event. If memory
-    /// for the replies is refused, carries out none.
+    /// for the replies is refused, carries out no event.
     pub fn run_events(&mut self, events: &[Event<'_>]) -> Result<Vec<EventReply>, AllocError>
-        // Each event has its effect on the registry that the event before it left. A stop at any
-        // moment leaves the state after accepted commands, which include every command that was
-        // acknowledged by then.
+        // Each event has its effect on the registry after the previous event. A stop at any moment
+        // leaves the state after accepted commands, which include every command that was
+        // acknowledged before that moment.
         ensures ok { IfOk result (λ replies. EventsRan D.facts self.old self.new
             (map happening_of events.now) replies.items) }
         ensures err { OnErr result (self.new ≡ self.old) }

@@ -6,7 +6,7 @@ ghost use Rattle.binders.specs.Slotted.{lowest_free};
 use registry::Binder;
 use std::marker::Model;
 
-/// 8 slots, each of which has a binder or is free. In contracts, this value is the list of the
+/// 8 slots, each of which has a binder or is free. In contracts, the value is the list of the
 /// slots.
 #[derive(Drop)]
 pub(crate) struct Slots {

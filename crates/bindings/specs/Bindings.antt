@@ -1,4 +1,4 @@
--- The text of the symbols that relocations name, and of their bindings (own).
+-- The text of the symbols to which relocations refer, and of their bindings (own).
 use Rattle.std.specs.Prelude.{ℕ, List, ◌++◌, length, map, codes, Option, Some, None}
 use Rattle.std.specs.List.{flat_map, range_with_len}
 use Rattle.elf_dynamic.specs.Strings.{name_of, needed}
@@ -31,8 +31,8 @@ needs_line name = name_line (codes "needs ") name
 abbrev pub binds_line : (symbol : List ℕ) (value : ℕ) (object : List ℕ) → List ℕ
 binds_line symbol value object = codes "binds " ++ name_text symbol ++ codes " 0x" ++ address_text value ++ name_line (codes " ") object
 
--- the line of a symbol of object number `own`; `name` is the symbol's name; the target is a symbol of an object, the
--- value 0 for a weak symbol that no object defines, or none
+-- the line of a symbol of object number `own`; `name` is the symbol's name; the target is a symbol
+-- of an object, or 0 for a weak symbol that no object defines, or none
 abbrev pub target_line : List Placed → ℕ → List ℕ → Option Target → List ℕ
 target_line objects own name (Some (At object symbol)) = binds_line name (own_address objects object symbol) (name_at objects object)
 target_line objects own name (Some Zero) = name_line (codes "unresolved ") name
@@ -46,8 +46,9 @@ target_at objects own i = target (map named objects) own i
 unfoldable pub symbol_line : List Placed → ℕ → ℕ → List ℕ
 symbol_line objects own i = target_line objects own (name_of (file_at objects own) i) (target_at objects own i)
 
--- the lines of object number `own`: the object itself, the names that it needs, and each symbol that its relocations name, in the order of the
--- symbols' numbers
+-- the lines of object number `own`: the line of the object itself, those of the names that it
+-- needs, and that of each symbol to which its relocations refer, in the order of the symbols'
+-- numbers
 unfoldable pub object_text : List Placed → ℕ → List ℕ
 object_text objects own =
     object_line (base_at objects own) (name_at objects own)

@@ -9,12 +9,13 @@ use Rattle.bindings.specs.Bindings.{name_line, names_line, needs_line}
 abbrev pub missing_line : Need → List ℕ
 missing_line need = names_line (codes "missing ") need.name need.needer
 
--- the line of a needed name, followed by the line of a missing name if no library has the needed name; `names` has the
--- libraries' names
+-- the line of a needed name and, if no library has this name, the line of a missing name; `names`
+-- has the libraries' names
 abbrev pub need_text : List (List ℕ) → Need → List ℕ
 need_text names need = needs_line need.name ++ (if is_missing names need then missing_line need else [])
 
--- the lines of an object that is found: the line of its name, and the lines of the names that it needs
+-- the lines of an object that was found: the line of its name, and the lines of the names that it
+-- needs
 unfoldable pub found_text : List (List ℕ) → Named → List ℕ
 found_text names object = name_line (codes "found ") object.name ++ flat_map (need_text names) (needed_by object)
 

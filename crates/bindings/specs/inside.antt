@@ -1,4 +1,4 @@
--- Definitions of the data that the code keeps to be fast. A reader doesn't have to believe these
--- definitions.
+-- Definitions of the data that make the code fast. To understand the contracts of public calls, you
+-- don't need them.
 pub mod Flags
 pub mod Names

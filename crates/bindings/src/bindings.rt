@@ -21,8 +21,8 @@ use std::io::Write;
 use std::marker::Model;
 use text_output::WriteFault;
 
-/// A program and its libraries at their bases, and flags for the symbols that their relocations
-/// name. In contracts, the value is the list of the placed objects.
+/// A program and its libraries at their bases, with flags for the symbols to which their
+/// relocations refer. In contracts, the value is the list of the placed objects.
 #[derive(Drop)]
 pub struct Bindings<'a> {
     objects: PlacedOrder<'a>,
@@ -42,7 +42,7 @@ impl<'a> Model for Bindings<'a> {
 }
 
 /// Writes the lines of object number `own`. `named` has a flag for each symbol of the object, which
-/// is true if a relocation names the symbol. Returns whether all symbols with a true flag are
+/// is true if a relocation refers to the symbol. Returns whether all symbols with a true flag are
 /// bound.
 #[tactic(auto, unfolding(crate::specs::Bindings::object_text))]
 fn put_object<W: Write>(
@@ -64,13 +64,14 @@ fn put_object<W: Write>(
 }
 
 impl<'a> Bindings<'a> {
-    /// Places the objects of an order, the program at `base`, and finds the symbols that their
-    /// relocations name. Makes one pass over the relocations, and allocates one byte a symbol.
+    /// Places the objects of an order, with the program at `base`, and finds the symbols to which
+    /// their relocations refer. Makes one pass over the relocations, and allocates one byte for
+    /// each symbol.
     pub fn of(alloc: Global, order: &'a Order<'a>, base: u64) -> Result<Bindings<'a>, BindRefusal>
         requires { is_good_base (ordered.file_at order.now 0) base ≡ true }
         ensures ok { IfOk result (λ bindings. bindings ≡ place base order.now) }
 
-        // If the memory of an object would end above 2^47 - 4,096, returns NoRoom. Returns
+        // Refuses with NoRoom if the memory of an object would end above 2^47 - 4,096. Returns
         // OutOfMemory only if the program's own memory doesn't end above that address.
         ensures room { OnOk result (lacks_room (place base order.now) ≡ false) }
         ensures refused { IfErr result (IsPlaceAnswer (place base order.now)) }
@@ -80,11 +81,10 @@ impl<'a> Bindings<'a> {
         Ok(Bindings { objects, named })
     }
 
-    /// Writes the text. Returns whether every symbol that a relocation names is bound. If so, a
-    /// bind would find no undefined symbol. Uses 64 KiB of stack, allocates nothing, and passes the
-    /// text to the writer in pieces of 64 KiB. The time is that of one search for each symbol that
-    /// relocations name, and of writing. If the writer fails, the writer's contents are
-    /// unspecified.
+    /// Writes the text. Returns whether every symbol to which a relocation refers is bound, so that
+    /// a bind would find no undefined symbol. Uses 64 KiB of stack, allocates nothing, and passes
+    /// the text to the writer in pieces of 64 KiB. Searches once for each symbol to which a
+    /// relocation refers. If the writer fails, the writer's contents are unspecified.
     #[tactic(auto, unfolding(crate::specs::Bindings::bindings_text))]
     pub fn write_text<W: Write>(&self, out: &mut W) -> Result<bool, WriteFault>
         ensures text { OnOk result

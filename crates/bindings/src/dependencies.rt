@@ -1,4 +1,4 @@
-// Writes, as text, the names that a program and the libraries found for it need.
+// Writes, as text, the names that a program needs, and those that the libraries found for it need.
 
 ghost use Rattle.std.specs.Prelude.{◌≡◌, not, is_none, map, IfOk, OnOk};
 ghost use Rattle.std.specs.List.{flat_map};
@@ -42,7 +42,7 @@ impl<'a> Model for Dependencies<'a> {
 
 impl<'a> Dependencies<'a> {
     /// Makes the dependencies of a program and of the libraries that were found for it. Allocates
-    /// about 20 bytes a library.
+    /// about 20 bytes for each library.
     pub fn of(
         alloc: Global,
         program: &'a Admitted<'a>,
@@ -69,8 +69,8 @@ impl<'a> Dependencies<'a> {
         self.names.contains(name)
     }
 
-    /// Writes the line of a name that an object needs. If no library has this name, writes the line
-    /// of a missing name after it.
+    /// Writes the line of a name that an object needs and, if no library has this name, the line of
+    /// a missing name.
     fn put_need<W: Write>(
         &self,
         out: &mut W,
@@ -125,11 +125,11 @@ impl<'a> Dependencies<'a> {
         Ok(())
     }
 
-    /// Writes the text. It has the line of each object, and a line for each name that the object
-    /// needs. If none of the libraries has a needed name, another line follows the name's line.
-    /// Uses 64 KiB of stack, allocates nothing, and passes the text to the writer in pieces of 64
-    /// KiB. Makes one pass over the objects' dynamic sections, with one search for each name. If
-    /// the writer fails, the writer's contents are unspecified.
+    /// Writes the text: the line of each object, and a line for each name that the object needs.
+    /// After the line of a name that no library has, writes the line of a missing name. Uses 64 KiB
+    /// of stack, allocates nothing, and passes the text to the writer in pieces of 64 KiB. Makes
+    /// one pass over the objects' dynamic sections, with one search for each name. If the writer
+    /// fails, the writer's contents are unspecified.
     #[tactic(auto, unfolding(crate::specs::Dependencies::dependencies_text))]
     pub fn write_text<W: Write>(&self, out: &mut W) -> Result<(), WriteFault>
         ensures { OnOk result (Appends (W.contents out.old) (W.contents out.new)

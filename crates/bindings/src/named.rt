@@ -1,4 +1,4 @@
-// Finds the symbols that relocations name.
+// Finds the symbols to which relocations refer.
 
 ghost use Rattle.std.specs.Prelude.{◌≡◌, ◌<◌, ◌∷◌, ◌++◌, [], ℕ, List, length, map, true, IfOk};
 ghost use Rattle.elf_dynamic.specs.Relocation.{uses_symbol};
@@ -9,7 +9,7 @@ use elf_dynamic::{Object, Relocation, uses_symbol};
 use image::PlacedOrder;
 use std::alloc::{AllocError, Global};
 
-/// If `relocation` uses the value of a symbol, sets the flag of this symbol.
+/// Sets the flag of the symbol whose value `relocation` uses, if it uses one.
 fn note(flags: &mut [bool], relocation: Relocation)
     requires { uses_symbol relocation.kind ≡ true → relocation.symbol < length flags.old }
     ensures { (count : ℕ) → (rs : List Rela) → AreFlags count rs flags.old
@@ -20,8 +20,8 @@ fn note(flags: &mut [bool], relocation: Relocation)
     }
 }
 
-/// Returns a flag for each symbol of an object, which is true if a relocation of the object names
-/// the symbol. Allocates one byte a symbol, and makes one pass over the relocations.
+/// Returns a flag for each symbol of an object, which is true if a relocation of the object refers
+/// to the symbol. Allocates one byte for each symbol, and makes one pass over the relocations.
 fn named_flags(alloc: Global, object: &Object<'_>) -> Result<Vec<bool>, AllocError>
     ensures { IfOk result (λ flags. FileFlags object.now flags.items) }
 {

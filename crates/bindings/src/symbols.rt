@@ -56,8 +56,8 @@ fn put_symbol<W: Write>(
     }
 }
 
-/// If a relocation names the symbol, writes the line of the symbol, and returns whether the symbol
-/// is bound. Otherwise writes nothing, and returns true.
+/// Writes the line of the symbol if a relocation refers to it, and returns whether the symbol is
+/// bound. If no relocation refers to it, writes nothing and returns true.
 fn put_if_named<W: Write>(
     out: &mut W,
     buffer: &mut TextBuffer,
@@ -82,7 +82,7 @@ fn put_if_named<W: Write>(
 }
 
 /// Writes the lines of the symbols of object number `own` whose flags are true. Returns whether all
-/// of these symbols are bound. If they are, a bind finds no undefined symbol in this object.
+/// of these symbols are bound, so that a bind finds no undefined symbol in this object.
 pub(crate) fn put_symbols<W: Write>(
     out: &mut W,
     buffer: &mut TextBuffer,

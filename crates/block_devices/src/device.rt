@@ -1,4 +1,4 @@
-// Whether a block device is in use.
+// Finds out whether a block device is in use.
 
 use crate::folder::{is_folder_held, read_text, whole_of};
 use crate::numbers::Numbers;
@@ -21,7 +21,7 @@ const SWAPS: &str = "/proc/swaps";
 #[derive(Clone, Copy)]
 struct Device {
     numbers: Numbers,
-    /// If this device is a partition, the numbers of its disk.
+    /// The numbers of the disk to which this device belongs, if the device is a partition.
     whole: Option<Numbers>,
 }
 
@@ -109,9 +109,9 @@ impl Device {
     }
 }
 
-/// Returns whether the block device with the number `rdev` (`st_rdev` of stat(2)) is mounted,
-/// swapped to or held by another device. This is also true if its disk or one of its partitions is.
-/// An error means that a file or folder of /proc or /sys can't be read, or that memory was refused.
+/// Returns whether the block device with the number `rdev` (`st_rdev` of stat(2)) is in use: it,
+/// its disk or one of its partitions is mounted, is a swap area, or is used by another device. An
+/// error means that a file or folder of /proc or /sys can't be read, or that memory was refused.
 pub fn is_in_use<R: Files<File = File>>(rt: &R, alloc: Global, rdev: u64) -> io::Result<bool> {
     let device = Device::new(rt, alloc, rdev)?;
     Ok(

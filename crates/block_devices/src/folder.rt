@@ -7,14 +7,14 @@ use std::io::{ErrorKind, Read};
 use std::rt::Files;
 use std::{fs, io, str};
 
-/// Returns the text of a file, with a replacement character in place of bytes that aren't UTF-8. A
-/// mount point may have such a name.
+/// Returns the text of a file, with a replacement character for each sequence of bytes that isn't
+/// UTF-8, because a mount point may have such a name.
 pub(crate) fn read_text<R: Files>(rt: &R, alloc: Global, path: &str) -> io::Result<String> {
     let bytes = fs::read(&(rt, alloc), path)?;
     Ok(String::from_utf8_lossy(alloc, &bytes)?)
 }
 
-/// Returns the device numbers in a file, if the file exists and has them.
+/// Returns the device numbers in a file, if the file exists and contains them.
 pub(crate) fn numbers_in<R: Files>(
     rt: &R,
     alloc: Global,
@@ -27,18 +27,19 @@ pub(crate) fn numbers_in<R: Files>(
     }
 }
 
-/// Returns the path of a name in a folder.
+/// Returns the path of the file with the name `name` in a folder.
 fn path_in(alloc: Global, folder: &str, name: &str) -> io::Result<String> {
     Ok(format!(in alloc; "{folder}/{name}")?)
 }
 
-/// Returns whether the device of a folder of sysfs is a partition.
+/// Returns whether a folder of sysfs is that of a partition.
 fn is_partition<R: Files>(rt: &R, alloc: Global, folder: &str) -> io::Result<bool> {
     let partition = path_in(alloc, folder, "partition")?;
     Ok(fs::metadata(rt, partition.as_str()).is_ok())
 }
 
-/// Returns the numbers of the disk of which a device is a partition.
+/// Returns the numbers of the disk to which a partition belongs, or `None` if the device isn't a
+/// partition.
 pub(crate) fn whole_of<R: Files>(
     rt: &R,
     alloc: Global,
@@ -52,8 +53,7 @@ pub(crate) fn whole_of<R: Files>(
     numbers_in(rt, alloc, &disk)
 }
 
-/// Returns the names in a folder, or in the folder to which a link leads. Each name is ended by a
-/// byte 0.
+/// Returns the names in a folder, or in the folder to which a link leads. A byte 0 ends each name.
 fn names_in<R: Files>(rt: &R, alloc: Global, folder: &str) -> io::Result<Vec<u8>> {
     let inside = path_in(alloc, folder, ".")?;
     let mut found = rt.open_dir(&inside)?;
@@ -62,8 +62,8 @@ fn names_in<R: Files>(rt: &R, alloc: Global, folder: &str) -> io::Result<Vec<u8>
     Ok(names)
 }
 
-/// Returns whether `names`, the names in a folder, has any name except `.` and `..`. Each name is
-/// ended by a byte 0.
+/// Returns whether `names`, the names in a folder, has any name except `.` and `..`. A byte 0 ends
+/// each name.
 fn has_others(names: &[u8]) -> bool {
     for name in names.split(|byte| *byte == 0) {
         if !matches!(name, b"" | b"." | b"..") {
@@ -80,7 +80,7 @@ fn has_holders<R: Files>(rt: &R, alloc: Global, folder: &str) -> io::Result<bool
     Ok(has_others(&names))
 }
 
-/// Returns whether a name in the folder of a disk is that of a partition which other devices use.
+/// Returns whether a name in the folder of a disk is that of a partition that other devices use.
 fn is_held_partition<R: Files>(
     rt: &R,
     alloc: Global,
@@ -94,8 +94,8 @@ fn is_held_partition<R: Files>(
     Ok(is_partition(rt, alloc, &inside)? && has_holders(rt, alloc, &inside)?)
 }
 
-/// Returns whether one of the names in the folder of a disk is that of a partition which other
-/// devices use. Each name is ended by a byte 0.
+/// Returns whether one of the names in the folder of a disk is that of a partition that other
+/// devices use. A byte 0 ends each name.
 fn has_held_partition<R: Files>(
     rt: &R,
     alloc: Global,
@@ -110,8 +110,8 @@ fn has_held_partition<R: Files>(
     Ok(false)
 }
 
-/// Returns whether other devices use the device of a folder of sysfs. If the device is a partition,
-/// its disk is tested too. Otherwise its partitions are tested too.
+/// Returns whether other devices use the device of a folder of sysfs. Also tests the disk of a
+/// partition, and the partitions of a disk.
 pub(crate) fn is_folder_held<R: Files>(
     rt: &R,
     alloc: Global,

@@ -19,7 +19,7 @@ impl Numbers {
         }
     }
 
-    /// Returns the numbers that a text encodes in the form that the system uses: `8:1`.
+    /// Returns the numbers that a text such as `8:1` encodes, in the system's format.
     pub(crate) fn parse(text: &str) -> Option<Numbers> {
         let (major, minor) = text.split_once(':')?;
         Some(Numbers {

@@ -20,7 +20,7 @@ plan_of disk = plan_in disk.planned.items
 abbrev pub given_to : ByteDisk → List Sector
 given_to disk = disk.start.now
 
--- the number of calls that were made up to and including the last of these steps
+-- the number of calls up to the last of these steps, including the call that made it
 abbrev pub calls_for : List PlannedStep → ℕ
 calls_for [] = 0
 calls_for (p ∷ planned) = calls_made p.idle + 1 + calls_for planned
@@ -30,7 +30,7 @@ abbrev pub failures_for : List PlannedStep → ℕ
 failures_for [] = 0
 failures_for (p ∷ planned) = calls_failed p.idle + failures_for planned
 
--- the number of these steps that are made by moment u
+-- the number of these steps that have been made at moment u
 abbrev pub steps_at : List PlannedStep → ℕ → ℕ
 steps_at [] u = 0
 steps_at (p ∷ planned) u = if nat_lt (calls_made p.idle) u then steps_at planned (u - (calls_made p.idle + 1)) + 1 else 0
@@ -39,11 +39,12 @@ steps_at (p ∷ planned) u = if nat_lt (calls_made p.idle) u then steps_at plann
 abbrev pub HasFullPlan : ByteDisk → Type 0
 HasFullPlan disk = vec_capacity disk.planned ≤ vec_len disk.planned
 
--- the memory of the disk's index has no room for one more sector; the index finds the latest content of a sector
+-- the memory of the disk's index has no room for one more sector; the index is used to find the
+-- latest content of a sector
 abbrev pub HasFullIndex : ByteDisk → Type 0
 HasFullIndex disk = spare disk.latest ≡ 0
 
--- a step, as a log records it
+-- the step as a log records it
 abbrev pub logged : Step → Logged
 logged (Write at content) = Wrote
 logged Sync = Synced
@@ -70,11 +71,11 @@ byte_facts disk = facts_of disk.start.now disk.planned.items disk.idle
 abbrev pub LeavesAsAfter : ByteDisk → ℕ → ℕ → Type 0
 LeavesAsAfter disk u n = (m : List Sector) → MixtureAt (byte_facts disk) u m ↔ IsMixtureAfter (given_to disk) (take n (plan_of disk)) m
 
--- How the plan of a disk relates to the disk's facts, if the steps are carried out in the order of the
--- plan. After each prefix of the plan, a stop leaves exactly what the disk's facts state for some
--- moment. For each moment there is such a prefix.
+-- The relation of a disk's plan to the disk's facts, if the steps are carried out in the order of
+-- the plan. After each prefix of the plan, a stop leaves exactly the contents that the disk's facts
+-- state for some moment. For each moment there is such a prefix.
 pub record IsPlanOf (disk : ByteDisk) : Type 0 where
   pub prefixes : (n : ℕ) → n ≤ length (plan_of disk) → (u : ℕ) × (u ≤ (byte_facts disk).time) × LeavesAsAfter disk u n
   pub moments : (u : ℕ) → u ≤ (byte_facts disk).time → (n : ℕ) × (n ≤ length (plan_of disk)) × LeavesAsAfter disk u n
-  -- no write is outside the disk
+  -- no write is to a sector outside the disk
   pub inside : All (λ write. write.0 < length (given_to disk)) (writes_in (plan_of disk))

@@ -3,7 +3,7 @@ use Rattle.std.specs.Prelude.{◌≡◌, ◌<◌, ◌*◌, ◌/◌, ◌^◌, ℕ
 use Rattle.std.specs.Simd.{first_chunks}
 use Rattle.sector_disk.specs.Disk.{Sector, sector_bytes}
 
--- `bytes` bytes make whole sectors, fewer than 2^32 of them
+-- a disk can have `bytes` bytes: they are whole sectors, and fewer than 2^32 of them
 abbrev pub IsDiskLength : ℕ → Type 0
 IsDiskLength bytes = (sectors : ℕ) × (sectors < 2 ^ 32) × (bytes ≡ sector_bytes * sectors)
 

@@ -4,8 +4,8 @@ use Rattle.sector_disk.specs.CallCount.{calls_made, calls_failed}
 use Rattle.sector_disk.specs.Disk.{DiskFacts, sector, Wrote}
 use Rattle.byte_disk.specs.declared.read_only.ReadOnlyDisk.{ReadOnlyDisk}
 
--- Reads return the given sectors, and a stop leaves these sectors. Only writes fail, and the log records each of
--- them.
+-- Reads return the given sectors, and a stop leaves these sectors. Only writes fail, and the log
+-- records each of them.
 abbrev pub read_only_facts : ReadOnlyDisk → DiskFacts
 read_only_facts disk = record {
   honest = true;

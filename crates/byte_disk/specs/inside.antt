@@ -1,5 +1,5 @@
--- How a disk over given bytes finds contents fast, and consequences of its definitions. A reader needn't
--- believe these definitions.
+-- The search for the latest contents of a disk over given bytes, and laws that follow from its
+-- definitions. A reader needn't check these definitions.
 pub mod Latest
 pub mod PlanLaws
 pub mod Laws

@@ -1,5 +1,4 @@
-// A disk over given bytes, and the plan that makes the given bytes equal to the disk's present
-// contents.
+// A disk over given bytes, and the plan that turns these bytes into the disk's present contents.
 
 ghost use Rattle.std.specs.Prelude.{◌≡◌, ◌⊎◌, ◌<◌, ◌≤◌, ◌^◌, ℕ, length, All, map, nat_eq};
 ghost use Rattle.std.specs.Prelude.{◌++◌, ◌∷◌, [], Some, OnOk, OnErr, vec_len, vec_capacity};
@@ -17,16 +16,16 @@ use std::alloc::{AllocError, Global};
 use std::collections::HashMap;
 use std::mem::replace;
 
-/// An honest disk whose sectors were given. It keeps its writes and syncs as the steps of a plan,
-/// in the order of the calls. It allocates memory only for the steps, so that reads allocate none.
-/// A read, a write and a sync take constant time.
+/// An honest disk over sectors that its caller gives. It stores its writes and syncs as the steps
+/// of a plan, in the order of the calls. It allocates memory only for the steps, so that reads
+/// allocate none. A read, a write and a sync take constant time.
 #[derive(Drop)]
 pub struct ByteDisk<'a> {
     start: &'a [[u8; SECTOR_BYTES]],
     planned: Vec<PlannedStep>,
-    // For each sector that was written, the position of the step that wrote it last.
+    // For each sector that was written, the position of the step that last wrote it.
     latest: HashMap<u32, usize>,
-    // The calls since the last step. None of them made a step.
+    // The calls since the last step, none of which made a step.
     idle: CallCount,
     ghost few: { length start.now < 2 ^ 32 },
     ghost whole: { All IsWhole start.now },
@@ -67,14 +66,15 @@ impl<'a> ByteDisk<'a> {
         ensures steps { map (λ planned. planned.step) result.now ≡ plan_of self.now }
         ensures plan { IsPlanOf self.now }
 
-        // If the steps are carried out, the given sectors become what reads return.
+        // Carrying out the steps turns the given sectors into the contents that reads return.
         ensures now { (byte_facts self.now).now
             ≡ carried_out (given_to self.now) (plan_of self.now) }
     {
         &self.planned
     }
 
-    /// Returns the content that was written to sector `at` last, or otherwise the given content.
+    /// Returns the content that was last written to sector `at`, or the given content if there is
+    /// none.
     fn latest(&self, at: u32) -> &[u8; SECTOR_BYTES]
         requires { at < (byte_facts self.now).sectors }
         ensures { result.now ≡ sector (byte_facts self.now).now at }
@@ -89,8 +89,8 @@ impl<'a> ByteDisk<'a> {
     }
 }
 
-/// Allocates the memory for one more step. Also notes the position of that step as the place of the
-/// latest content of sector `at`.
+/// Allocates the memory for one more step. Also stores the position of that step as the place of
+/// the latest content of sector `at`.
 fn make_room(
     planned: &mut Vec<PlannedStep>,
     latest: &mut HashMap<u32, usize>,
@@ -109,8 +109,8 @@ fn make_room(
     Ok(())
 }
 
-/// Adds the step `step`, for which memory is reserved already. The call of the disk that makes the
-/// step succeeds.
+/// Adds the step `step`, for which memory has already been reserved. The call of the disk that
+/// makes the step succeeds.
 fn make_step(planned: &mut Vec<PlannedStep>, idle: &mut CallCount, step: Step)
     requires room { vec_len planned.old < vec_capacity planned.old }
     ensures made { planned.new.items
@@ -155,7 +155,7 @@ impl<'a> Disk for ByteDisk<'a> {
         reply
     }
 
-    /// Fails only if memory is refused, and then adds no step.
+    /// Fails only if memory is refused, and in this case adds no step.
     fn write(&mut self, at: u32, from: &[u8; SECTOR_BYTES]) -> Result<(), DiskFault>
         requires { at < (byte_facts self.old).sectors }
         ensures calls { IsCall (byte_facts self.old) (byte_facts self.new) result }
@@ -181,7 +181,7 @@ impl<'a> Disk for ByteDisk<'a> {
         }
     }
 
-    /// Fails only if memory is refused, and then adds no step.
+    /// Fails only if memory is refused, and in this case adds no step.
     fn sync(&mut self) -> Result<(), DiskFault>
         ensures calls { IsCall (byte_facts self.old) (byte_facts self.new) result }
         ensures honest { IsTrue (byte_facts self.old).honest

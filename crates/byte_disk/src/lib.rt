@@ -1,9 +1,9 @@
-//! A disk over given bytes, which keeps all changes as a plan.
+//! A disk over given bytes, which stores all changes as a plan.
 //!
 //! `ByteDisk` is a `Disk` whose sectors are the bytes of a disk's file. It doesn't change these
-//! bytes. It keeps its writes and syncs, in the order of the calls, as steps that a caller carries
-//! out on the file. It is honest. While the plan is carried out, a stop leaves only what a stop of
-//! the `ByteDisk` may leave. `ReadOnlyDisk` is for callers that only read.
+//! bytes. It stores its writes and syncs, in the order of the calls, as steps that a caller carries
+//! out on the file. It is honest. A stop while the caller carries out the plan leaves only contents
+//! that a stop of the `ByteDisk` may leave. `ReadOnlyDisk` is for callers that only read.
 #![tactic(auto)]
 
 mod disk;

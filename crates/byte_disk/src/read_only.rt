@@ -5,8 +5,8 @@ ghost use Rattle.sector_disk.specs.Disk.{IsWhole};
 use crate::given::sectors_of;
 use sector_disk::{CallCount, Disk, DiskFault, SECTOR_BYTES};
 
-/// An honest disk whose sectors were given, only for reading: reads and syncs succeed, and each
-/// write fails. It allocates no memory, and each call takes constant time.
+/// An honest disk for reading, over sectors that its caller gives: reads and syncs succeed, and
+/// each write fails. It allocates no memory, and each call takes constant time.
 #[derive(Drop)]
 pub struct ReadOnlyDisk<'a> {
     start: &'a [[u8; SECTOR_BYTES]],

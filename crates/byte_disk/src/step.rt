@@ -12,6 +12,6 @@ pub enum Step {
         /// The content that is written to the sector.
         content: [u8; SECTOR_BYTES],
     },
-    /// Everything that was written is brought to the medium.
+    /// All written contents are brought to the medium.
     Sync,
 }

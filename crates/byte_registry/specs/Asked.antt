@@ -1,4 +1,4 @@
--- How commands for the registry that bytes hold are answered (own).
+-- The answers to commands for the registry that bytes hold (own).
 use Rattle.std.specs.Prelude.{◌≡◌, ◌⊎◌, ◌≤◌, ◌+◌, ℕ, List, [], ◌∷◌, length, Err, Option, None, Some}
 use Rattle.sector_disk.specs.Disk.{StartsWith}
 use Rattle.byte_disk.specs.declared.disk.ByteDisk.{ByteDisk}
@@ -43,15 +43,15 @@ failures_of (Some disk) = (byte_facts disk).failures
 abbrev pub IsBadLength : List ℕ → StoreRefusal → Type 0
 IsBadLength bytes refusal = (refusal ≡ BadGeometry) × (IsDiskLength (length bytes) → ⊥)
 
--- Nothing is opened on the bytes `bytes`, and `refusal` is the reason. If the bytes hold a state,
--- whatever its files are, the reason is a failed call or refused memory.
+-- Opening the bytes `bytes` was refused with `refusal`. If the bytes hold a state of a store, even
+-- if its files aren't libraries, the reason is a failed call or refused memory.
 pub record IsUnopened (bytes : List ℕ) (refusal : StoreRefusal) : Type 0 where
   pub why : contents.IsUnopened bytes refusal
   pub held : (s : State) → HoldStore bytes s → (refusal ≡ Device) ⊎ (refusal ≡ OutOfMemory)
 
--- The bytes hold state s and no other, whatever its files are. The registry on them answered the request
--- by the step table. If the answer is Done, these steps lead to the state after the accepted request. No
--- file is read, except those that a bind needs.
+-- The bytes hold state s and no other state; its files needn't be libraries. The registry on them
+-- answered the request by the step table. If the answer is Done, these steps lead to the state
+-- after the accepted request. No file is read, except those that a bind needs.
 pub record IsAsked (bytes : List ℕ) (s : State) (request : Request) (reply : Reply) (steps : List Step) : Type 0 where
   pub holds : HoldStore bytes s
   pub only : (other : State) → HoldStore bytes other → other ≡ s
@@ -64,8 +64,8 @@ pub record IsAsked (bytes : List ℕ) (s : State) (request : Request) (reply : R
   pub few : reply ≡ Done → length steps ≤ calls_of s request + 1
   pub at_most : reply ≡ Done → length steps ≤ most_steps request
 
--- An empty registry was made on these bytes. The bytes had no root before, and the steps lead from their
--- sectors to sectors that hold the empty state.
+-- An empty registry was made on these bytes. The bytes had no root before, and the steps lead from
+-- their sectors to sectors that hold the empty state.
 pub record IsFormatted (bytes : List ℕ) (steps : List Step) : Type 0 where
   pub size : IsDiskLength (length bytes)
   pub unformatted : HasRootMagic (sectors_in bytes) → ⊥
@@ -73,7 +73,7 @@ pub record IsFormatted (bytes : List ℕ) (steps : List Step) : Type 0 where
   -- there are at most three steps: a sync, the write of the root, and a sync
   pub few : length steps ≤ 3
 
--- no registry is made on the bytes, and `refusal` is the reason
+-- making a registry on the bytes was refused with `refusal`
 abbrev pub IsUnformatted : List ℕ → StoreRefusal → Type 0
 IsUnformatted bytes refusal = IsBadLength bytes refusal ⊎ IsDiskLength (length bytes) × RefusesFormat (sectors_in bytes) refusal
 
@@ -90,17 +90,18 @@ pub record LeadsOver (bytes : List ℕ) (s : State) (steps : List Step) : Type 0
   -- and a sync
   pub few : length steps ≤ catalogues_for (length s.libraries) + 4
 
--- The registry now has version 2. Either the bytes hold state s by the rules of version 1, and the steps
--- lead to the upgraded state. Or they hold s by the rules of version 2, and the only step is a sync.
+-- The registry is now of version 2. The bytes hold state s by the rules of version 1, and the steps
+-- lead to the upgraded state; or they hold s by the rules of version 2, and the only step is a
+-- sync.
 abbrev pub IsUpgraded : List ℕ → State → List Step → Type 0
 IsUpgraded bytes s steps =
     LeadsOver bytes s steps
     ⊎ (Holds bytes s × LeadsTo Stands (sectors_in bytes) s s steps × (steps ≡ Sync ∷ []))
 
--- No registry is upgraded on the bytes, and `refusal` is the reason. If the bytes hold a state of
--- version 1, the reason is the refusal by the tests of an upgrade, or refused memory. If they hold a
--- state of version 2, the reason is refused memory. In all other cases the reason is S6 for a bad
--- length, or a refusal that `RefusesLook` allows.
+-- Upgrading the registry on the bytes was refused with `refusal`. If the bytes hold a state of
+-- version 1, the reason is the refusal of the tests of an upgrade, or refused memory. If they hold
+-- a state of version 2, the reason is refused memory. Otherwise the reason is S6 for a bad length,
+-- or a refusal that `RefusesLook` allows.
 pub record IsUnupgraded (bytes : List ℕ) (refusal : StoreRefusal) : Type 0 where
   pub old : (s : State) → HoldsOld bytes s → IsUpgradeAnswer (refusal_of_upgrade (length (sectors_in bytes)) s) (Err refusal)
   pub held : (s : State) → Holds bytes s → (refusal ≡ Device) ⊎ (refusal ≡ OutOfMemory)

@@ -1,4 +1,4 @@
--- The state that bytes hold, whatever its files are (own).
+-- The state of a store that bytes hold; its files needn't be libraries (own).
 use Rattle.std.specs.Prelude.{◌≡◌, ◌≢◌, ◌⊎◌, ℕ, List, length}
 use Rattle.byte_disk.specs.Bytes.{IsDiskLength, sectors_in}
 use Rattle.states.specs.State.{State}
@@ -16,14 +16,15 @@ pub record HoldStore (bytes : List ℕ) (s : State) : Type 0 where
 abbrev pub HoldNoOther : List ℕ → State → Type 0
 HoldNoOther bytes s = (other : State) → HoldStore bytes other → other ≡ s
 
--- The reason why nothing is opened: the bytes aren't whole sectors, or the store refuses the sectors.
+-- The reason why opening was refused: the bytes aren't whole sectors, or the store refuses the
+-- sectors.
 abbrev pub IsUnopened : List ℕ → StoreRefusal → Type 0
 IsUnopened bytes refusal =
     ((refusal ≡ BadGeometry) × (IsDiskLength (length bytes) → ⊥))
     ⊎ (IsDiskLength (length bytes) × RefusesOpen Stands (sectors_in bytes) refusal)
 
--- The reason why bytes have no contents. It is never a failed call of their disk. If the bytes hold a
--- state, the reason is refused memory.
+-- The reason why bytes have no contents. It is never a failed call of their disk. If the bytes hold
+-- a state, the reason is refused memory.
 pub record HaveNoContents (bytes : List ℕ) (refusal : StoreRefusal) : Type 0 where
   pub why : IsUnopened bytes refusal
   pub no_failure : refusal ≢ Device

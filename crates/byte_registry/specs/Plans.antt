@@ -17,32 +17,32 @@ pub record Holds (bytes : List ℕ) (s : State) : Type 0 where
   pub size : IsDiskLength (length bytes)
   pub stands : Stands (sectors_in bytes) s
 
--- the steps without the sync with which they begin, or all steps if they don't begin with a sync
+-- the steps without the sync at their beginning, or all steps if they don't begin with a sync
 abbrev pub behind_sync : List Step → List Step
 behind_sync [] = []
 behind_sync (Sync ∷ steps) = steps
 behind_sync (Write at content ∷ steps) = Write at content ∷ steps
 
--- the plan of a call: a sync, and then the steps that its disk kept
+-- the plan of a call: a sync, and then the steps that its disk stored
 abbrev pub synced_plan : ByteDisk → List Step
 synced_plan disk = Sync ∷ behind_sync (plan_of disk)
 
 -- If the steps are carried out on the sectors `start`, each mixture after each prefix of the steps
 -- satisfies `Before` or `After`. Each mixture after all steps satisfies `After`.
 pub record LeadsFrom (start : List Sector) (Before After : List Sector → Type 0) (steps : List Step) : Type 0 where
-  -- the first step is a sync, so that earlier writes to the disk are on its medium before the plan's
-  -- first write
+  -- the first step is a sync, so that earlier writes to the disk are on its medium before the
+  -- plan's first write
   pub begins : (rest : List Step) × (steps ≡ Sync ∷ rest)
   pub prefix : (n : ℕ) → n ≤ length steps → (m : List Sector) → IsMixtureAfter start (take n steps) m → Before m ⊎ After m
   pub whole : (m : List Sector) → IsMixtureAfter start steps m → After m
-  -- every write is to a sector that exists
+  -- every write is to a sector of the disk
   pub inside : All (λ write. write.0 < length start) (writes_in steps)
 
 -- the steps lead from state s to state s'; `HoldsIt` defines which state a list of sectors holds
 abbrev pub LeadsTo : (List Sector → State → Type 0) → List Sector → State → State → List Step → Type 0
 LeadsTo HoldsIt start s s' steps = LeadsFrom start (λ m. HoldsIt m s) (λ m. HoldsIt m s') steps
 
--- the maximum number of steps in the plan of a change, whatever is installed: one for each sector of the
+-- the maximum number of steps in the plan of a change to any registry: one for each sector of the
 -- file's bytes, and 37 more
 abbrev pub most_steps : Request → ℕ
 most_steps (install bytes) = div_ceil (length bytes) sector_bytes + 37

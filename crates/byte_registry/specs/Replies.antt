@@ -1,4 +1,4 @@
--- How a registry that was just opened on given sectors may answer (own).
+-- The possible answers of a registry that was just opened on given sectors (own).
 use Rattle.std.specs.Prelude.{ℕ, List, length, [], false}
 use Rattle.sector_disk.specs.Disk.{Sector}
 use Rattle.roots.specs.declared.root.Root.{Root}

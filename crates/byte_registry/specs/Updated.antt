@@ -1,4 +1,4 @@
--- The result of an update of the registry that bytes hold: either all of its changes are made, or none
+-- The result of an update of the registry that bytes hold, which makes all of its changes or none
 -- (own).
 use Rattle.std.specs.Prelude.{◌≡◌, ◌⊎◌, ℕ, List, [], ◌∷◌, ◌++◌, length, Result, Ok, Err, OnOk}
 use Rattle.sector_disk.specs.Disk.{LeavesOnly}
@@ -29,15 +29,16 @@ pub record IsUnwritten (bytes : List ℕ) (disk : ByteDisk) : Type 0 where
   pub given : given_to disk ≡ sectors_in bytes
   pub steps : (plan_of disk ≡ []) ⊎ (plan_of disk ≡ Sync ∷ [])
 
--- Requests to a draft of state s were accepted one after the other. Each was planned in the draft that
--- the requests before it made. `new` is the draft after all of them, and its state is the state after
--- them.
+-- Requests to a draft of state s were accepted one after the other. Each was planned in the draft
+-- after the previous requests. `new` is the draft after all requests, and its state is the state
+-- after them.
 pub record ArePlanned (old new : Drafted ByteDisk) (s : State) (requests : List Request) : Type 0 where
   pub answers : List Reply
   pub plans : Plans byte_facts old new requests answers
   pub update : IsUpdate byte_facts old new s requests answers
 
--- A draft refused one of the requests. The n requests before it were planned, and made the draft `last`.
+-- A draft refused one of the requests. The n requests before it were planned, and led to the draft
+-- `last`.
 pub record StopsAt (old last : Drafted ByteDisk) (requests : List Request) (n : ℕ) (refusal : Refusal) : Type 0 where
   pub before : List Request
   pub request : Request
@@ -49,9 +50,8 @@ pub record StopsAt (old last : Drafted ByteDisk) (requests : List Request) (n : 
   pub plans : Plans byte_facts old mid before answers
   pub refused : DraftAnswers byte_facts mid request (Refused refusal) last
 
--- The step table refuses request number `n`, counted from 0, with `refusal`. The request is tested in
--- the state of the draft that the requests before it made. Then the update is given up, with the disk
--- `left`.
+-- The step table refuses request number `n`, counted from 0, with `refusal`, in the state of the
+-- draft after the requests before it. Then the update is given up, with the disk `left`.
 pub record IsRefusedAt (old : Drafted ByteDisk) (s : State) (requests : List Request) (n : ℕ) (refusal : Refusal) (left : ByteDisk) : Type 0 where
   pub last : Drafted ByteDisk
   pub stops : StopsAt old last requests n refusal
@@ -67,7 +67,7 @@ pub record IsCommitted (old : Drafted ByteDisk) (s : State) (requests : List Req
 
 -- The answer to an update with this draft. All requests were planned; or one was refused, with the
 -- number of requests before it; or a call of the commit failed; or memory for the draft was refused
--- before any request.
+-- before the first request.
 abbrev pub AnswersUpdate : Drafted ByteDisk → State → List Request → Result (Unit {0}) (ℕ × Refusal) → ByteDisk → Type 0
 AnswersUpdate old s requests (Ok done) left = IsCommitted old s requests left
 AnswersUpdate old s requests (Err refused) left =
@@ -75,9 +75,9 @@ AnswersUpdate old s requests (Err refused) left =
     ⊎ ((refused.0 ≡ length requests) × (refused.1 ≡ Device) × IsCommitted old s requests left)
     ⊎ ((refused.0 ≡ 0) × (refused.1 ≡ OutOfMemory) × (left ≡ old.store.disk))
 
--- The bytes hold state s. The step table allows this answer to an update with the requests `requests`,
--- and the update leaves the disk `left`. The draft is begun on a registry that was just opened on the
--- bytes.
+-- The bytes hold state s. The step table allows this answer to an update with the requests
+-- `requests`, and the update leaves the disk `left`. The draft belongs to a registry that was just
+-- opened on the bytes.
 pub record IsUpdateOn (bytes : List ℕ) (s : State) (requests : List Request) (answer : Result (Unit {0}) (ℕ × Refusal)) (left : ByteDisk) : Type 0 where
   pub root : Root
   pub entries : List PlacedEntry
@@ -86,9 +86,9 @@ pub record IsUpdateOn (bytes : List ℕ) (s : State) (requests : List Request) (
   pub unwritten : IsUnwritten bytes disk
   pub answers : AnswersUpdate (begun (opened_on disk root entries)) s requests answer left
 
--- The bytes hold state s and no other, whatever its files are. An update with these requests was
--- answered by the step table, and left the disk `left`. If the answer is Ok, the plan of this disk
--- leads, in one change, to the state after all requests.
+-- The bytes hold state s and no other state; its files needn't be libraries. An update with these
+-- requests was answered by the step table, and left the disk `left`. If the answer is Ok, the plan
+-- of this disk leads, in one change, to the state after all requests.
 pub record IsUpdateAsked (bytes : List ℕ) (s : State) (requests : List Request) (answer : Result (Unit {0}) (ℕ × Refusal)) (left : ByteDisk) : Type 0 where
   pub holds : HoldStore bytes s
   pub only : (other : State) → HoldStore bytes other → other ≡ s

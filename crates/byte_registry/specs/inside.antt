@@ -1,3 +1,3 @@
--- Values that the code keeps while it runs. Nobody has to believe these definitions.
+-- Values that the code keeps while it runs. A reader needn't check these definitions.
 pub mod Opening
 pub mod Planning

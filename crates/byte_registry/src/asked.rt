@@ -15,8 +15,8 @@ use requests::{Command, Reply};
 use std::alloc::Global;
 use store::StoreRefusal;
 
-/// Returns the disk with the bytes `disk`. If these bytes aren't whole sectors, refuses with S6
-/// (BadGeometry) and returns no disk.
+/// Returns the disk with the bytes `disk`. Refuses with S6 (BadGeometry), and returns no disk, if
+/// these bytes aren't whole sectors.
 pub(crate) fn disk_of(
     alloc: Global,
     disk: &[u8],
@@ -30,8 +30,8 @@ pub(crate) fn disk_of(
     }
 }
 
-/// Opens the registry on the bytes `disk`, and reads no file. If the opening is refused, returns
-/// the refusal, and the disk if the bytes are whole sectors.
+/// Opens the registry on the bytes `disk`, and reads no file. If this is refused, returns the
+/// refusal and, if the bytes are whole sectors, the disk.
 pub(crate) fn open_on(
     alloc: Global,
     disk: &[u8],
@@ -51,9 +51,9 @@ pub(crate) fn open_on(
     }
 }
 
-/// Opens the registry on the bytes `disk`, and returns its reply to a command, and the disk after
-/// the command. If the opening is refused, returns the refusal, and the disk if the bytes are whole
-/// sectors. Reads no file, except those that a bind needs.
+/// Opens the registry on the bytes `disk`, applies a command, and returns the reply and the disk
+/// after the command. If the opening is refused, returns the refusal and, if the bytes are whole
+/// sectors, the disk. Reads no file, except those that a bind needs.
 pub fn ask<'a>(
     alloc: Global,
     disk: &'a [u8],
@@ -62,8 +62,8 @@ pub fn ask<'a>(
     ensures ok { IfOk result (λ asked. (s : State)
         × IsAsked disk.now s (request_of command.now) asked.0 (synced_plan asked.1)) }
 
-    // The answer is S1 only if a call of the disk failed. Here only a write or a sync can fail, and
-    // only because memory was refused.
+    // The answer is S1 only if a call of the disk failed. On this disk, only a write or a sync can
+    // fail, and only because memory was refused.
     ensures device { MatchResult result
         (λ asked. asked.0 ≡ Refused Device → 0 < (byte_facts asked.1).failures)
         (λ refused. refused.0 ≡ StoreRefusal.Device → 0 < failures_of refused.1) }

@@ -10,15 +10,15 @@ use std::alloc::Global;
 use store::StoreRefusal;
 
 /// Makes an empty registry on the bytes `disk`, and returns the disk. If this is refused, returns
-/// the refusal, and the disk if the bytes are whole sectors.
+/// the refusal and, if the bytes are whole sectors, the disk.
 pub fn format(
     alloc: Global,
     disk: &[u8],
 ) -> Result<ByteDisk<'_>, (StoreRefusal, Option<ByteDisk<'_>>)>
     ensures ok { IfOk result (λ made. IsFormatted disk.now (synced_plan made)) }
 
-    // The answer is S1 only if a call of the disk failed. Here only a write or a sync can fail, and
-    // only because memory was refused.
+    // The answer is S1 only if a call of the disk failed. On this disk, only a write or a sync can
+    // fail, and only because memory was refused.
     ensures device { IfErr result (λ refused. refused.0 ≡ StoreRefusal.Device
         → 0 < failures_of refused.1) }
     ensures err { IfErr result (λ refused. IsUnformatted disk.now refused.0) }

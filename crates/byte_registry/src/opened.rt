@@ -13,7 +13,7 @@ use std::alloc::Global;
 use store::StoreRefusal;
 
 /// Opens the contents of the bytes `disk`, or returns the reason why they aren't a disk of version
-/// 2. Also refuses with S6 (BadGeometry) if the bytes aren't whole sectors. No call of the disk
+/// 2. Also refuses with S6 (BadGeometry) if the bytes aren't whole sectors. No call of this disk
 /// fails, so the refusal is never S1 (Device).
 pub fn contents_of<'a>(
     alloc: Global,
@@ -40,8 +40,8 @@ pub fn contents_of<'a>(
     }
 }
 
-/// Opens the registry on the bytes `disk`, only for reading: no file is read, and every write
-/// fails. If there is no registry, refuses as `contents_of` does.
+/// Opens the registry on the bytes `disk`, only for reading: reads no file, and every write fails.
+/// Returns the refusals of `contents_of`.
 pub fn registry_of<'a>(
     alloc: Global,
     disk: &'a [u8],

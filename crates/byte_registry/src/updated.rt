@@ -1,4 +1,4 @@
-// An update of a registry on given bytes: either all of its changes are planned, or none.
+// An update of a registry on given bytes, which plans all of its changes, or none.
 ghost use Rattle.std.specs.Prelude.{◌≡◌, ◌<◌, IfOk, IfErr, MatchResult, map, false};
 ghost use Rattle.byte_disk.specs.ByteDisk.{byte_facts};
 ghost use Rattle.states.specs.State.{State};
@@ -17,7 +17,7 @@ use requests::{Command, Refusal, Reply};
 use std::alloc::Global;
 use store::StoreRefusal;
 
-/// If `reply` is a refusal, returns the refusal as an error.
+/// Returns the refusal as an error, if `reply` is a refusal.
 fn refusal_in(reply: Reply) -> Result<(), Refusal>
     ensures { MatchResult result (λ _. is_refusal reply ≡ false)
         (λ refusal. reply ≡ Reply.Refused refusal) }
@@ -82,10 +82,10 @@ fn make_update<'a>(
     }
 }
 
-/// Opens the registry on the bytes `disk`, and returns its answer to an update with `commands`, and
-/// the disk after the update. If the opening is refused, returns the refusal, and the disk if the
-/// bytes are whole sectors. If the update is refused, the answer has the refusal and the number of
-/// commands before the refused one. This number is 0 if memory for the draft is refused, and the
+/// Opens the registry on the bytes `disk`, makes an update with `commands`, and returns the answer
+/// and the disk after the update. If the opening is refused, returns the refusal and, if the bytes
+/// are whole sectors, the disk. If the update is refused, the answer has the refusal and the number
+/// of commands before the refused one. This number is 0 if memory for the draft is refused, and the
 /// number of all commands if the commit fails. Reads no file, except those that a bind needs.
 pub fn ask_update<'a>(
     alloc: Global,
@@ -95,8 +95,8 @@ pub fn ask_update<'a>(
     ensures ok { IfOk result (λ asked. (s : State) × IsUpdateAsked disk.now s
         (map request_of commands.now) asked.0 asked.1) }
 
-    // The answer is S1 only if a call of the disk failed. Here only a write or a sync can fail, and
-    // only because memory was refused.
+    // The answer is S1 only if a call of the disk failed. On this disk, only a write or a sync can
+    // fail, and only because memory was refused.
     ensures device { MatchResult result
         (λ asked. IfErr asked.0 (λ refused. refused.1 ≡ Refusal.Device
         → 0 < (byte_facts asked.1).failures))

@@ -17,7 +17,7 @@ use roots::{Root, Version};
 use std::alloc::Global;
 use store::StoreRefusal;
 
-/// Returns whether the current root on the bytes `disk` has version 2.
+/// Returns whether the current root on the bytes `disk` is of version 2.
 fn is_current(disk: &[u8]) -> bool
     ensures { (version : RootVersion) → (root : Root) → (entries : List PlacedEntry) → (s : State)
         → StandsBy version (sectors_in disk.now) root entries s
@@ -32,17 +32,17 @@ fn is_current(disk: &[u8]) -> bool
     }
 }
 
-/// Upgrades the registry on the bytes `disk` to version 2, and returns the disk. If the registry
-/// already has version 2, writes nothing. If the upgrade is refused, returns the refusal, and the
-/// disk if the bytes are whole sectors.
+/// Upgrades the registry on the bytes `disk` to version 2, and returns the disk. If the registry is
+/// already of version 2, writes nothing. If the upgrade is refused, returns the refusal and, if the
+/// bytes are whole sectors, the disk.
 pub fn upgrade(
     alloc: Global,
     disk: &[u8],
 ) -> Result<ByteDisk<'_>, (StoreRefusal, Option<ByteDisk<'_>>)>
     ensures ok { IfOk result (λ made. (s : State) × IsUpgraded disk.now s (synced_plan made)) }
 
-    // The answer is S1 only if a call of the disk failed. Here only a write or a sync can fail, and
-    // only because memory was refused.
+    // The answer is S1 only if a call of the disk failed. On this disk, only a write or a sync can
+    // fail, and only because memory was refused.
     ensures device { IfErr result (λ refused. refused.0 ≡ StoreRefusal.Device
         → 0 < failures_of refused.1) }
     ensures err { IfErr result (λ refused. IsUnupgraded disk.now refused.0) }

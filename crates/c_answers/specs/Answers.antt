@@ -30,8 +30,8 @@ use Rattle.byte_registry.specs.Plans.{Holds, LeadsTo}
 use Rattle.c_answers.specs.Spelling.{plan_bytes}
 use Rattle.c_answers.specs.Unsaid.{IsSilent, IsUnbound, IsUncounted, IsUnlisted}
 
--- The buffer `text` has the beginning of `whole`: as many bytes as `text` has room for. The length of
--- `whole` is reported.
+-- The buffer `text` has the first bytes of `whole`, as many as fit. The length of `whole` is
+-- reported.
 pub record HasText (whole text : List ℕ) (told_size : ℕ) : Type 0 where
   pub size : told_size ≡ length whole
   pub begins : take (length whole) text ≡ take (length text) whole
@@ -42,9 +42,9 @@ pub record WantsMemory (text : List ℕ) (told_size told_file told : ℕ) : Type
   pub file : told_file ≡ 0
   pub has_text : HasText memory_text text told_size
 
--- The call reports the reply: the reply's status, the number of the test that refuses a file, and the
--- reply's text. S1 (Device) is never reported, because a call of a disk of bytes fails only for lack of
--- memory.
+-- The call reports the reply: the reply's status, the number of the test that refuses a file, and
+-- the reply's text. S1 (Device) is never reported, because a call of a disk of bytes fails only if
+-- memory is refused.
 pub record Tells (reply : Reply) (text : List ℕ) (told_size told_file told : ℕ) : Type 0 where
   pub status : told ≡ reply_number reply
   pub file : told_file ≡ file_number_in reply
@@ -58,15 +58,15 @@ pub record TurnsAway (refusal : StoreRefusal) (text : List ℕ) (told_size told_
   pub has_text : HasText (disk_refusal_text refusal) text told_size
   pub device : refusal ≢ store.Device
 
--- The plan's buffer has these steps. The answer has the number of steps and the number of bytes that
--- encode the steps.
+-- The plan's buffer has these steps. The answer has the number of steps and the number of bytes
+-- that encode them.
 pub record HasPlan (steps : List Step) (buffer : List ℕ) (told_bytes told_count : ℕ) : Type 0 where
   pub bytes : told_bytes ≡ length (plan_bytes steps)
   pub spelled : take told_bytes buffer ≡ plan_bytes steps
   pub count : told_count ≡ length steps
 
--- The plan's buffer is too small for these steps. The answer has the number of steps and the number of
--- bytes that encode the steps.
+-- The plan's buffer is too small for these steps. The answer has the number of steps and the number
+-- of bytes that encode them.
 pub record LacksRoom (steps : List Step) (buffer : List ℕ) (told_bytes told_count told : ℕ) : Type 0 where
   pub status : told ≡ no_room
   pub small : length buffer < length (plan_bytes steps)
@@ -77,30 +77,29 @@ pub record LacksRoom (steps : List Step) (buffer : List ℕ) (told_bytes told_co
 abbrev pub IsTold : Reply → List ℕ → Answer → ℕ → Type 0
 IsTold reply text answer status = Tells reply text answer.text answer.file_refusal status ⊎ WantsMemory text answer.text answer.file_refusal status
 
--- the reply is reported, or memory for the report was refused; in either case all counts are 0
+-- the reply is reported, or memory for the report was refused; all counts are 0
 abbrev pub IsToldAlone : Reply → List ℕ → Answer → ℕ → Type 0
 IsToldAlone reply text answer status = IsTold reply text answer status × IsUncounted answer
 
--- the call reports why there is no registry, or memory for the report was refused; in either case all
--- counts are 0
+-- the call reports why there is no registry, or memory for the report was refused; all counts are 0
 abbrev pub IsTurnedAway : StoreRefusal → List ℕ → Answer → ℕ → Type 0
 IsTurnedAway refusal text answer status =
     (TurnsAway refusal text answer.text answer.file_refusal status ⊎ WantsMemory text answer.text answer.file_refusal status) × IsUncounted answer
 
--- either the buffer has the steps and Done is reported, or the buffer is too small
+-- the buffer has the steps and Done is reported, or the buffer is too small
 abbrev pub IsPlanned : List Step → List ℕ → List ℕ → Answer → ℕ → Type 0
 IsPlanned steps plan text answer status =
     ((HasPlan steps plan answer.bytes answer.count × IsTold reply.Done text answer status)
     ⊎ (LacksRoom steps plan answer.bytes answer.count status × IsSilent answer))
     × IsUnlisted answer × IsUnbound answer
 
--- unless the status is done, no_room or out_of_memory, the buffer is unchanged
+-- the buffer is unchanged, unless the status is done, no_room or out_of_memory
 abbrev pub IsLeft : List ℕ → List ℕ → ℕ → Type 0
 IsLeft old new status = status ≢ done → status ≢ no_room → status ≢ out_of_memory → new ≡ old
 
 -- The buffer has the plan of a change of the registry that the bytes hold. The plan leads from the
--- registry's state to the state after the accepted change. If each file of the registry was a library
--- before the plan, each one is a library after it. The bytes hold no other state.
+-- registry's state to the state after the accepted change. If each file of the registry was a
+-- library before the plan, each file is a library after it. The bytes hold no other state.
 pub record IsPlanOf (bytes : List ℕ) (request : Request) (buffer : List ℕ) (answer : Answer) : Type 0 where
   pub state : State
   pub steps : List Step
@@ -110,24 +109,24 @@ pub record IsPlanOf (bytes : List ℕ) (request : Request) (buffer : List ℕ) (
   pub registry : Holds bytes state → LeadsTo Stands (sectors_in bytes) state (accepted state request) steps
   pub plan : HasPlan steps buffer answer.bytes answer.count
 
--- how a reply to a change is reported
+-- the report of a reply to a change
 abbrev pub IsChangeTold : Reply → List Step → List ℕ → List ℕ → Answer → ℕ → Type 0
 IsChangeTold reply.Done steps plan text answer status = IsPlanned steps plan text answer status
 IsChangeTold other steps plan text answer status = IsToldAlone other text answer status
 
--- Either the registry that the bytes hold was asked for a change, and its reply is reported. Or there is
--- no registry, and the call reports why.
+-- A change was requested of the registry that the bytes hold, and its reply is reported; or there
+-- is no registry, and the call reports why.
 abbrev pub IsChangeAnswered : List ℕ → Request → List ℕ → List ℕ → Answer → ℕ → Type 0
 IsChangeAnswered bytes request plan text answer status =
     ((s : State) × (reply : Reply) × (steps : List Step) × IsAsked bytes s request reply steps × IsChangeTold reply steps plan text answer status)
     ⊎ ((refusal : StoreRefusal) × IsUnopened bytes refusal × IsTurnedAway refusal text answer status)
 
--- how a reply to a bind is reported
+-- the report of a reply to a bind
 abbrev pub IsBindTold : Reply → List ObjectPlace → List SegmentPlace → List ℕ → List ℕ → Answer → ℕ → Type 0
 IsBindTold (reply.Bound image) objects segments bytes text answer status = IsImageGiven image objects segments bytes answer status
 IsBindTold other objects segments bytes text answer status = IsToldAlone other text answer status
 
--- Either the registry that the bytes hold was asked for a bind, and its reply is reported. Or there is
+-- A bind was requested of the registry that the bytes hold, and its reply is reported; or there is
 -- no registry, and the call reports why.
 abbrev pub IsBindAnswered : List ℕ → Request → List ObjectPlace → List SegmentPlace → List ℕ → List ℕ → Answer → ℕ → Type 0
 IsBindAnswered disk request objects segments bytes text answer status =
@@ -140,8 +139,8 @@ pub record IsFormatPlan (bytes buffer : List ℕ) (answer : Answer) : Type 0 whe
   pub formatted : IsFormatted bytes steps
   pub plan : HasPlan steps buffer answer.bytes answer.count
 
--- either an empty registry is planned, and the buffer has the plan or is too small; or the call reports
--- why none is planned
+-- an empty registry is planned, and the buffer has the plan or is too small; or the call reports
+-- why no registry is planned
 abbrev pub IsFormatAnswered : List ℕ → List ℕ → List ℕ → Answer → ℕ → Type 0
 IsFormatAnswered bytes plan text answer status =
     ((steps : List Step) × IsFormatted bytes steps × IsPlanned steps plan text answer status)
@@ -154,33 +153,33 @@ pub record IsUpgradePlan (bytes buffer : List ℕ) (answer : Answer) : Type 0 wh
   pub upgraded : IsUpgraded bytes state steps
   pub plan : HasPlan steps buffer answer.bytes answer.count
 
--- either an upgrade is planned, and the buffer has the plan or is too small; or the call reports why
--- none is planned
+-- an upgrade is planned, and the buffer has the plan or is too small; or the call reports why no
+-- upgrade is planned
 abbrev pub IsUpgradeAnswered : List ℕ → List ℕ → List ℕ → Answer → ℕ → Type 0
 IsUpgradeAnswered bytes plan text answer status =
     ((s : State) × (steps : List Step) × IsUpgraded bytes s steps × IsPlanned steps plan text answer status)
     ⊎ ((refusal : StoreRefusal) × IsUnupgraded bytes refusal × IsTurnedAway refusal text answer status)
 
--- either the buffers have the listing and the reply is reported, or a buffer is too small
+-- the buffers have the listing and the reply is reported, or a buffer is too small
 abbrev pub IsListGiven : Listed → List EntryPlace → List ℕ → List ℕ → Answer → ℕ → Type 0
 IsListGiven l entries names text answer status = (Counts l answer.count answer.preloads × IsUnbound answer)
     × ((AreListed (entries_of l) entries names answer.bytes × IsTold (reply.Listing l) text answer status)
     ⊎ ((status ≡ no_room) × LackSpace (entries_of l) entries names answer.bytes × IsSilent answer))
 
--- how a reply to a listing is reported; if the reply is a listing, the generation is reported too
+-- the report of a reply to a listing; if the reply is a listing, the generation is reported too
 abbrev pub IsListTold : State → Reply → List EntryPlace → List ℕ → List ℕ → Answer → ℕ → Type 0
 IsListTold s (reply.Listing l) entries names text answer status = IsListGiven l entries names text answer status × (answer.generation ≡ s.generation)
 IsListTold s other entries names text answer status = IsToldAlone other text answer status
 
--- Either the registry that the bytes hold was asked for a listing, and its reply is reported. Or there
+-- A listing was requested of the registry that the bytes hold, and its reply is reported; or there
 -- is no registry, and the call reports why.
 abbrev pub IsListAnswered : List ℕ → List EntryPlace → List ℕ → List ℕ → Answer → ℕ → Type 0
 IsListAnswered disk entries names text answer status =
     ((s : State) × (reply : Reply) × (steps : List Step) × IsAsked disk s list reply steps × IsListTold s reply entries names text answer status)
     ⊎ ((refusal : StoreRefusal) × IsUnopened disk refusal × IsTurnedAway refusal text answer status)
 
--- Either the argument has names in a row, and the answer is that of a change to these preloads. Or the
--- argument doesn't have this form, or memory was refused.
+-- The argument has names in a row, and the answer is that of a change to these preloads; or the
+-- argument doesn't have this form; or memory was refused.
 abbrev pub IsPreloadAnswered : List ℕ → List ℕ → List ℕ → List ℕ → Answer → ℕ → Type 0
 IsPreloadAnswered disk names plan text answer status =
     ((list : List (List ℕ)) × AreNames list names × IsChangeAnswered disk (set_preloads list) plan text answer status)

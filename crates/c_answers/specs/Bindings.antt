@@ -1,4 +1,4 @@
--- The text for C about the symbols of a program and its libraries, and what they are bound to (own).
+-- The text for C about the bindings of the symbols of a program and its libraries (own).
 use Rattle.std.specs.Prelude.{◌≡◌, ◌⊎◌, ℕ, List, Option, Some, None, length, take}
 use Rattle.bindings.specs.Bindings.{bindings_text}
 use Rattle.bindings.specs.Dependencies.{dependencies_text}
@@ -24,10 +24,10 @@ abbrev pub bound_number : Option BindRefusal → ℕ
 bound_number None = done
 bound_number (Some why) = bind_number why
 
--- The text about a program at the address `base`, which depends on the refusal of its bind. If there is
--- no refusal, or a symbol is undefined, the text states what the symbols of the objects are bound to. If
--- a library is missing, it states which libraries were found and which are missing. For any other
--- refusal there is no text.
+-- The text about a program at `base`, which depends on the refusal of its bind. If there is no
+-- refusal, or a symbol is undefined, the text is about the bindings of the objects' symbols. If a
+-- library is missing, it is about the found and the missing libraries. For any other refusal there
+-- is no text.
 abbrev pub told_text : State → (program : List ℕ) → (base : ℕ) → Option BindRefusal → Option (List ℕ)
 told_text s program base None = Some (bindings_text (bound_objects s program base))
 told_text s program base (Some (bind.Undefined object symbol)) = Some (bindings_text (bound_objects s program base))
@@ -49,7 +49,7 @@ IsUntold s program base refusal.Damaged = (program_refusal program base ≡ None
 IsUntold s program base refusal.OutOfMemory = Unit
 IsUntold s program base other = ⊥
 
--- either the buffer has the text or is too small, or the call reports why there is no text
+-- the buffer has the text or is too small, or the call reports why there is no text
 abbrev pub IsBindingsTold : State → (program : List ℕ) → (base : ℕ) → (bytes text : List ℕ) → Answer → ℕ → Type 0
 IsBindingsTold s program base bytes text answer status =
     ((number : ℕ) × (said : List ℕ) × IsText s program base number said × IsGiven number 0 said bytes answer status)
@@ -62,8 +62,8 @@ IsBindingsAnswered disk program base bytes text answer status =
     ((s : State) × HoldStore disk s × HoldNoOther disk s × IsBindingsTold s program base bytes text answer status)
     ⊎ ((why : StoreRefusal) × HaveNoContents disk why × IsTurnedAway why text answer status)
 
--- the statuses with which there is a text: those of a bind that isn't refused, or that is refused with
--- B3 (Missing) or B5 (Undefined)
+-- the status is one with a text: that of a bind that isn't refused, or that is refused with B3
+-- (Missing) or B5 (Undefined)
 abbrev pub TellsText : ℕ → Type 0
 TellsText status = (status ≡ done) ⊎ (status ≡ 103) ⊎ (status ≡ 105)
 

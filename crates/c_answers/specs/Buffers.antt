@@ -18,16 +18,16 @@ use Rattle.registry.specs.Untested.{ReadsLibraries}
 abbrev pub segment_bytes : List ImageSegment → List ℕ
 segment_bytes segments = flat_map (λ s. s.bytes) segments
 
--- the place of a segment whose bytes begin at the offset `from` of the buffer
+-- the place of a segment whose bytes begin at offset `from` of the buffer
 abbrev pub place_of : ℕ → ImageSegment → SegmentPlace
 place_of from s = record { address = s.address; length = length s.bytes; from = from; permissions = s.permissions }
 
--- the places of the segments, if the bytes of the first segment begin at the offset `from`
+-- the places of the segments, if the bytes of the first segment begin at offset `from`
 abbrev pub places_of : ℕ → List ImageSegment → List SegmentPlace
 places_of from [] = []
 places_of from (s ∷ segments) = place_of from s ∷ places_of (from + length s.bytes) segments
 
--- the bytes of all segments, followed by the names of all objects, each with a byte 0 after it
+-- the bytes of all segments, followed by the names of all objects, each followed by a byte 0
 abbrev pub image_row : MemoryImage → List ℕ
 image_row image = segment_bytes image.segments ++ object_names image.objects
 
@@ -48,15 +48,15 @@ pub record LacksSpace (image : MemoryImage) (objects : List ObjectPlace) (segmen
   pub small : (length objects < length image.objects) ⊎ (length segments < length image.segments) ⊎ (length row < length (image_row image))
   pub size : told_size ≡ min (length (image_row image)) (2 ^ 64 - 1)
 
--- either the buffers have the image, or a buffer is too small; no text is reported
+-- the buffers have the image, or a buffer is too small; no text is reported
 abbrev pub IsImageGiven : MemoryImage → List ObjectPlace → List SegmentPlace → List ℕ → Answer → ℕ → Type 0
 IsImageGiven image objects segments bytes answer status =
     (((status ≡ done) × IsLaidOut image objects segments bytes answer.bytes)
     ⊎ ((status ≡ no_room) × LacksSpace image objects segments bytes answer.bytes))
     × CountsImage image answer × IsUnlisted answer × IsSilent answer
 
--- The buffers have the image that is defined for a program at the address `base` in the state that the
--- bytes hold, with the defined byte at each address. Each file that the bind reads is a library.
+-- The buffers have the image that is defined for a program at `base` in the state that the bytes
+-- hold, with the defined byte at each address. Each file that the bind reads is a library.
 pub record IsImageOf (disk program : List ℕ) (base : ℕ) (objects : List ObjectPlace) (segments : List SegmentPlace) (bytes : List ℕ) (answer : Answer) : Type 0 where
   pub state : State
   pub holds : HoldStore disk state

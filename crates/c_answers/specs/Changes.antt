@@ -10,10 +10,9 @@ use Rattle.c_answers.specs.declared.change_place.ChangePlace.{ChangePlace}
 abbrev pub own_bytes : List ℕ → ChangePlace → List ℕ
 own_bytes bytes change = take change.length (drop change.from bytes)
 
--- `request` is the request of a change with the bytes `own`. A change of kind 1 installs a library, and
--- a change of kind 2 replaces one; in both, `own` is the library's file. A change of kind 3 removes the
--- library whose name is `own`. A change of kind 4 sets the preloads to the names that `own` has in a
--- row.
+-- `request` is the request of a change of kind `kind` with the bytes `own`. Kind 1 installs a
+-- library, and kind 2 replaces one; `own` is the library's file. Kind 3 removes the library whose
+-- name is `own`. Kind 4 sets the preloads to the names that `own` has in a row.
 abbrev pub Asks : ℕ → List ℕ → Request → Type 0
 Asks kind own request =
     ((kind ≡ 1) × (request ≡ install own))
@@ -21,8 +20,8 @@ Asks kind own request =
     ⊎ ((kind ≡ 3) × (request ≡ remove own))
     ⊎ ((kind ≡ 4) × ((names : List (List ℕ)) × AreNames names own × (request ≡ set_preloads names)))
 
--- A change is valid and makes this request: its bytes lie within `bytes`, and have the form that its
--- kind needs.
+-- A change is valid and makes this request: its bytes lie within `bytes`, and have the form for its
+-- kind.
 pub record Means (bytes : List ℕ) (change : ChangePlace) (request : Request) : Type 0 where
   pub inside : change.from + change.length ≤ length bytes
   pub asks : Asks change.kind (own_bytes bytes change) request

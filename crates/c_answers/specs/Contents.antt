@@ -34,25 +34,25 @@ refusal_of unread.NotInstalled = refusal.NotInstalled
 refusal_of unread.Unreadable = refusal.Device
 refusal_of unread.OutOfMemory = refusal.OutOfMemory
 
--- either the buffer has exactly the bytes `given`, with this status and this count, or the buffer is too
+-- the buffer has exactly the bytes `given`, with this status and this count; or the buffer is too
 -- small; no text is reported
 abbrev pub IsGiven : (given_status count : ℕ) → (given bytes : List ℕ) → Answer → ℕ → Type 0
 IsGiven given_status count given bytes answer status =
     (((status ≡ given_status) × (take answer.bytes bytes ≡ given)) ⊎ ((status ≡ no_room) × (length bytes < length given)))
     × (answer.bytes ≡ length given) × (answer.count ≡ count) × IsUnlisted answer × IsUnbound answer × IsSilent answer
 
--- either the buffer has the file, or the buffer is too small; no text is reported
+-- the buffer has the file, or the buffer is too small; no text is reported
 abbrev pub IsFileGiven : List ℕ → List ℕ → Answer → ℕ → Type 0
 IsFileGiven file bytes answer status = IsGiven done 0 file bytes answer status
 
--- The reason why a library's file isn't returned. It is C3 (NotInstalled) if and only if no library has
--- the name. It is never S1 (Device), because no read of bytes fails.
+-- The reason why a library's file isn't returned. It is C3 (NotInstalled) if and only if no library
+-- has the name. It is never S1 (Device), because no read of bytes fails.
 abbrev pub IsUnread : State → List ℕ → Unread → Type 0
 IsUnread s name unread.NotInstalled = All (λ library. library.name ≢ name) s.libraries
 IsUnread s name unread.Unreadable = ⊥
 IsUnread s name unread.OutOfMemory = All (λ library. library.name ≢ name) s.libraries → ⊥
 
--- either the buffer has a library's file or is too small, or the call reports why there is no file
+-- the buffer has a library's file or is too small, or the call reports why there is no file
 abbrev pub IsFileTold : State → (name bytes text : List ℕ) → Answer → ℕ → Type 0
 IsFileTold s name bytes text answer status =
     ((file : List ℕ) × HasFile s name file × IsFileGiven file bytes answer status)
@@ -74,7 +74,7 @@ pub record IsFileOf (disk name bytes : List ℕ) (answer : Answer) : Type 0 wher
   pub size : answer.bytes ≡ length file
   pub given : take answer.bytes bytes ≡ file
 
--- either the digest is that of a library's file, or the call reports why there is none
+-- the digest is that of a library's file, or the call reports why there is no digest
 abbrev pub IsDigestTold : State → (name digest text : List ℕ) → Answer → ℕ → Type 0
 IsDigestTold s name digest text answer status =
     ((file : List ℕ) × HasFile s name file × (digest ≡ sha256 file) × (status ≡ done) × IsUncounted answer × IsSilent answer)
@@ -95,7 +95,7 @@ pub record IsDigestOf (disk name digest : List ℕ) : Type 0 where
   pub has : HasFile state name file
   pub is : digest ≡ sha256 file
 
--- the numbers of `info` in the form for C
+-- the numbers of `info` as a structure for C
 abbrev pub information_of : Info → Information
 information_of info =
     record {
@@ -109,7 +109,7 @@ information_of info =
       largest = info.unused.largest;
     }
 
--- The numbers are those that the step table has for the state that the bytes hold, and those of the
+-- The numbers are those of the step table for the state that the bytes hold, and those of the
 -- disk's unused sectors.
 pub record IsInfoOf (disk : List ℕ) (information : Information) : Type 0 where
   pub state : State
@@ -127,7 +127,7 @@ pub record IsInfoOf (disk : List ℕ) (information : Information) : Type 0 where
       → (length file ≤ told.unused.largest) ↔ (refusal_of_new (length (sectors_in disk)) (longest_unused store) state file ≡ None)
   pub form : (told.unused.largest ≡ 0) ⊎ IsFileSize told.unused.largest
 
--- either the numbers of the registry that the bytes hold are reported, or there is no registry, and the
+-- the numbers of the registry that the bytes hold are reported, or there is no registry, and the
 -- call reports why
 abbrev pub IsInfoAnswered : List ℕ → Information → List ℕ → Answer → ℕ → Type 0
 IsInfoAnswered disk information text answer status =

@@ -23,7 +23,8 @@ use Rattle.c_answers.specs.Numbers.{done, out_of_memory}
 use Rattle.c_answers.specs.Unsaid.{IsUncounted}
 use Rattle.c_answers.specs.declared.answer.Answer.{Answer}
 
--- the number of a refusal; 406 was the number of a test that no image failed, and isn't used again
+-- the number of a refusal; 406 was the number of a test that accepted every image, and isn't used
+-- again
 abbrev pub executable_number : ExecutableRefusal → ℕ
 executable_number refusal.NoEntry = 401
 executable_number refusal.StaticPie = 402
@@ -47,29 +48,29 @@ abbrev pub IsNoFileTold : ExecutableRefusal → List ℕ → Answer → ℕ → 
 IsNoFileTold refusal text answer status =
     (TellsNoFile refusal text answer.text answer.file_refusal status ⊎ WantsMemory text answer.text answer.file_refusal status) × IsUncounted answer
 
--- Either the image has an executable file: then the answer has the number of its program headers, and
--- the buffer has the file or is too small. Or a test refuses the image or memory was refused, and the
+-- The image has an executable file: the answer has the number of its program headers, and the
+-- buffer has the file or is too small. Or a test refuses the image or memory was refused, and the
 -- call reports why there is no file.
 abbrev pub IsExecutableTold : MemoryImage → (bytes text : List ℕ) → Answer → ℕ → Type 0
 IsExecutableTold image bytes text answer status =
     ((file : List ℕ) × IsExecutableOf image file × IsGiven done (header_count file) file bytes answer status)
     ⊎ ((refusal : ExecutableRefusal) × IsAnswer image refusal × IsNoFileTold refusal text answer status)
 
--- how a reply to a bind is reported by a call for an executable file
+-- the report of a reply to a bind, by a call for an executable file
 abbrev pub IsBoundTold : Reply → (bytes text : List ℕ) → Answer → ℕ → Type 0
 IsBoundTold (reply.Bound image) bytes text answer status = IsExecutableTold image bytes text answer status
 IsBoundTold other bytes text answer status = IsToldAlone other text answer status
 
--- Either the registry that the bytes hold was asked for a bind, and `IsBoundTold` holds for its reply.
--- Or there is no registry, and the call reports why.
+-- A bind was requested of the registry that the bytes hold, and `IsBoundTold` holds for its reply;
+-- or there is no registry, and the call reports why.
 abbrev pub IsExecutableAnswered : (disk : List ℕ) → Request → (bytes text : List ℕ) → Answer → ℕ → Type 0
 IsExecutableAnswered disk request bytes text answer status =
     ((s : State) × (reply : Reply) × (steps : List Step) × IsAsked disk s request reply steps × IsBoundTold reply bytes text answer status)
     ⊎ ((refusal : StoreRefusal) × IsUnopened disk refusal × IsTurnedAway refusal text answer status)
 
--- The buffer has the executable file of a program's image at the address `base`. The image is the one
--- that is defined in the state that the bytes hold, with the defined byte at each address. Each file
--- that the bind reads is a library.
+-- The buffer has the executable file of a program's image at `base`. The image is the one that is
+-- defined in the state that the bytes hold, with the defined byte at each address. Each file that
+-- the bind reads is a library.
 pub record IsExecutableFileOf (disk program : List ℕ) (base : ℕ) (bytes : List ℕ) (answer : Answer) : Type 0 where
   pub state : State
   pub holds : HoldStore disk state

@@ -22,7 +22,7 @@ preload_entries names = map (λ name. (name, 0)) names
 abbrev pub entries_of : Listed → List Entry
 entries_of l = l.libraries ++ preload_entries l.preloads
 
--- the names of entries in a row, each with a byte 0 after it
+-- the names of entries in a row, each followed by a byte 0
 abbrev pub names_in_row : List Entry → List ℕ
 names_in_row entries = flat_map (λ e. e.0 ++ 0 ∷ []) entries
 
@@ -30,7 +30,7 @@ names_in_row entries = flat_map (λ e. e.0 ++ 0 ∷ []) entries
 abbrev pub place_of : ℕ → Entry → EntryPlace
 place_of from e = record { name = from; name_length = min (length e.0) (2 ^ 32 - 1); file_length = e.1 }
 
--- the places of the entries, if the name of the first entry is at the offset `from`
+-- the places of the entries, if the name of the first entry is at offset `from`
 abbrev pub places_of : ℕ → List Entry → List EntryPlace
 places_of from [] = []
 places_of from (e ∷ entries) = place_of from e ∷ places_of (from + length e.0 + 1) entries
@@ -51,7 +51,7 @@ pub record Counts (l : Listed) (told_libraries told_preloads : ℕ) : Type 0 whe
   pub libraries : told_libraries ≡ length l.libraries
   pub preloads : told_preloads ≡ length l.preloads
 
--- either the buffers have the listing, or a buffer is too small; no text is reported yet
+-- the buffers have the listing, or a buffer is too small; no text has been reported yet
 abbrev pub IsListingGiven : Listed → List EntryPlace → List ℕ → Answer → ℕ → Type 0
 IsListingGiven l entries names answer status = IsSilent answer × IsUnbound answer × Counts l answer.count answer.preloads
     × ((status ≡ done) × AreListed (entries_of l) entries names answer.bytes

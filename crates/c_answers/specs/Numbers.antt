@@ -13,15 +13,15 @@ use Rattle.requests.specs.declared.refusal.Refusal.TheVariants as refusal
 use Rattle.requests.specs.declared.reply.Reply.{Reply}
 use Rattle.requests.specs.declared.reply.Reply.TheVariants as reply
 
--- the status of a call that did its work
+-- the status of a call that succeeded
 abbrev pub done : ℕ
 done = 0
 
--- the status if a buffer is too small
+-- the status of a call with a buffer that is too small
 abbrev pub no_room : ℕ
 no_room = 1
 
--- the status if an argument doesn't have the form that the call needs
+-- the status of a call with an argument that doesn't have the required form
 abbrev pub bad_argument : ℕ
 bad_argument = 2
 
@@ -54,8 +54,8 @@ bind_number bind.NoRoom = 104
 bind_number (bind.Undefined object symbol) = 105
 bind_number bind.OutOfMemory = 311
 
--- The status of a refusal. It is 200 plus the refusal's number for a refusal of a command,
--- `bind_number` for a refusal of a bind, and 300 plus the refusal's number for a refusal of a disk.
+-- The status of a refusal: 200 plus the refusal's number for a refusal of a command, `bind_number`
+-- for a refusal of a bind, and 300 plus the refusal's number for a refusal of a disk.
 abbrev pub refusal_number : Refusal → ℕ
 refusal_number (refusal.Object why) = 201
 refusal_number refusal.AlreadyInstalled = 202
@@ -120,15 +120,15 @@ file_number (file.Object why) = object_number why
 file_number file.DuplicateDefinition = 28
 file_number file.BadHashTable = 29
 
--- the number n of the test En that refuses the file, if the reason of a refusal is a refused file;
+-- the number n of the test En that refuses the file if the refusal is about a refused file, and
 -- otherwise 0
 abbrev pub file_number_of : Refusal → ℕ
 file_number_of (refusal.Object why) = file_number why
 file_number_of (refusal.Bind (bind.Program why)) = file_number why
 file_number_of other = 0
 
--- the number n of the test En that refuses the file, if the reason of a reply's refusal is a refused file;
--- otherwise 0
+-- the number n of the test En that refuses the file if the reply is a refusal about a refused file,
+-- and otherwise 0
 abbrev pub file_number_in : Reply → ℕ
 file_number_in (reply.Refused why) = file_number_of why
 file_number_in other = 0

@@ -9,7 +9,7 @@ abbrev pub address_at : ℕ → Option ℕ → ℕ
 address_at base (Some address) = (base + address) % 2 ^ 64
 address_at base None = 0
 
--- the place of an object whose name is at the offset `name` in the row of bytes, and whose first
+-- the place of an object whose name is at offset `name` in the row of bytes, and whose first
 -- segment is number `first` of the image
 abbrev pub object_place : ℕ → ℕ → ImageObject → ObjectPlace
 object_place name first o =
@@ -25,12 +25,12 @@ object_place name first o =
       entry = (o.base + o.addresses.entry) % 2 ^ 64;
     }
 
--- the places of the objects, if the name of the first object is at the offset `name`, and the first
--- segment of this object is number `first`
+-- the places of the objects, if the name of the first object is at offset `name`, and its first
+-- segment is number `first`
 abbrev pub object_places : ℕ → ℕ → List ImageObject → List ObjectPlace
 object_places name first [] = []
 object_places name first (o ∷ objects) = object_place name first o ∷ object_places (name + length o.name + 1) (first + o.segment_count) objects
 
--- the names of all objects in a row, each with a byte 0 after it
+-- the names of all objects in a row, each followed by a byte 0
 abbrev pub object_names : List ImageObject → List ℕ
 object_names objects = flat_map (λ o. o.name ++ 0 ∷ []) objects

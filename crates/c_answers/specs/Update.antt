@@ -23,8 +23,8 @@ use Rattle.c_answers.specs.Numbers.{bad_argument}
 use Rattle.c_answers.specs.Unsaid.{IsSilent, IsUnbound, IsUncounted, IsUnlisted}
 
 -- The buffer has the plan of an update of the registry that the bytes hold. The plan leads from the
--- registry's state to the state after all requests. If each file of the registry was a library before
--- the plan, each one is a library after it. The bytes hold no other state.
+-- registry's state to the state after all requests. If each file of the registry was a library
+-- before the plan, each file is a library after it. The bytes hold no other state.
 pub record IsUpdatePlan (bytes : List ℕ) (requests : List Request) (buffer : List ℕ) (answer : Answer) : Type 0 where
   pub state : State
   pub steps : List Step
@@ -34,8 +34,8 @@ pub record IsUpdatePlan (bytes : List ℕ) (requests : List Request) (buffer : L
   pub registry : Holds bytes state → LeadsTo Stands (sectors_in bytes) state (updated state requests) steps
   pub plan : HasPlan steps buffer answer.bytes answer.count
 
--- A request of an update is refused. The answer reports the refusal like that of a single request, and
--- the number of requests before the refused one.
+-- A request of an update is refused. The answer reports the refusal in the same way as that of a
+-- single request, and the number of requests before the refused one.
 pub record IsRefusedTold (before : ℕ) (refusal : Refusal) (text : List ℕ) (answer : Answer) (status : ℕ) : Type 0 where
   pub why : IsTold (Refused refusal) text answer status
   pub count : answer.count ≡ before
@@ -43,13 +43,13 @@ pub record IsRefusedTold (before : ℕ) (refusal : Refusal) (text : List ℕ) (a
   pub unlisted : IsUnlisted answer
   pub unbound : IsUnbound answer
 
--- how the answer to an update is reported
+-- the report of the answer to an update
 abbrev pub IsUpdateTold : Result (Unit {0}) (ℕ × Refusal) → List Step → List ℕ → List ℕ → Answer → ℕ → Type 0
 IsUpdateTold (Ok done) steps plan text answer status = IsPlanned steps plan text answer status
 IsUpdateTold (Err refused) steps plan text answer status = IsRefusedTold refused.0 refused.1 text answer status
 
--- Either the registry on a disk with these bytes was asked for an update, and the registry's answer is
--- reported, with the plan of the disk. Or there is no registry, and the call reports why.
+-- An update was requested of the registry on a disk with these bytes, and the registry's answer is
+-- reported, with the plan of the disk; or there is no registry, and the call reports why.
 abbrev pub IsAskedTold : List ℕ → List Request → List ℕ → List ℕ → Answer → ℕ → Type 0
 IsAskedTold disk requests plan text answer status =
     ((s : State) × (asked : Result (Unit {0}) (ℕ × Refusal)) × (left : ByteDisk) × IsUpdateAsked disk s requests asked left × IsUpdateTold asked (synced_plan left) plan text answer status)
@@ -61,8 +61,8 @@ IsAskedOrMemory disk requests plan text answer status =
     IsAskedTold disk requests plan text answer status
     ⊎ (WantsMemory text answer.text answer.file_refusal status × IsUncounted answer)
 
--- Either the registry was asked for an update with the requests of the changes, or a change isn't valid,
--- or memory was refused.
+-- An update with the requests of the changes was requested of the registry; or a change isn't
+-- valid; or memory was refused.
 abbrev pub IsUpdateAnswered : List ℕ → List ChangePlace → List ℕ → List ℕ → List ℕ → Answer → ℕ → Type 0
 IsUpdateAnswered disk changes bytes plan text answer status =
     ((requests : List Request) × Mean bytes changes requests × IsAskedTold disk requests plan text answer status)

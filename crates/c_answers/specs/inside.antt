@@ -1,3 +1,3 @@
--- Definitions about values between the parts of an answer. A reader needn't check them, because the
--- contracts of public functions don't use them.
+-- Definitions of values between the parts of an answer. A reader needn't check them, because no
+-- contract of a public function uses them.
 pub mod Bindings

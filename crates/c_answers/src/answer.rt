@@ -1,11 +1,11 @@
 // The values that a call returns besides its buffers.
 ghost use Rattle.std.specs.Prelude.{◌≡◌};
 
-/// The values that a call returns besides its buffers. Fields that a call doesn't use are 0.
+/// The values that a call returns besides its buffers. A field that a call doesn't use is 0.
 #[repr(C)]
 #[derive(Clone, Copy)]
 pub struct Answer {
-    /// The status: 0 if the call did its work, and otherwise the reason why it didn't.
+    /// The status: 0 if the call succeeded, and otherwise the reason why it didn't.
     pub status: u32,
     /// The number n of the first test En that refuses the file, if a file is refused.
     pub file_refusal: u32,
@@ -19,7 +19,7 @@ pub struct Answer {
     pub bytes: u64,
     /// The length of the whole text, in bytes.
     pub text: u64,
-    /// The number of changes that were made to the registry.
+    /// The number of changes since the disk was formatted.
     pub generation: u64,
     /// The number of objects of an image.
     pub objects: u64,

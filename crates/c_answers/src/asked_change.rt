@@ -13,11 +13,11 @@ use std::alloc::{AllocError, Global};
 pub(crate) enum AskedChange<'a> {
     /// Installs the library whose file has these bytes.
     Install(&'a [u8]),
-    /// Replaces the library that has the same name by the file with these bytes.
+    /// Replaces the library that has the same name as the file with these bytes.
     Replace(&'a [u8]),
     /// Removes the library with this name.
     Remove(&'a [u8]),
-    /// Sets the preloads to these names, in this order.
+    /// Makes the libraries with these names the preloads, in this order.
     SetPreloads(Vec<&'a [u8]>),
 }
 
@@ -35,8 +35,8 @@ impl<'a> AskedChange<'a> {
     }
 }
 
-/// Returns the command of a change of the kind `kind` with the bytes `own`. Returns `None` if there
-/// is no such kind, or if the bytes don't have the form that the kind needs.
+/// Returns the command of a change of kind `kind` with the bytes `own`, or `None` if there is no
+/// such kind, or the bytes don't have the form for it.
 fn asked_of(alloc: Global, kind: u64, own: &[u8]) -> Result<Option<AskedChange<'_>>, AllocError>
     ensures { IfOk result (λ read. MatchOption read
         ((request : Request) → Asks kind own.now request → ⊥)
@@ -54,7 +54,7 @@ fn asked_of(alloc: Global, kind: u64, own: &[u8]) -> Result<Option<AskedChange<'
     }
 }
 
-/// Returns the command of `change`, whose bytes are in `bytes`. Returns `None` if the change isn't
+/// Returns the command of `change`, whose bytes are in `bytes`, or `None` if the change isn't
 /// valid.
 fn asked_change<'a>(
     alloc: Global,
@@ -71,7 +71,7 @@ fn asked_change<'a>(
     }
 }
 
-/// Returns the commands of `changes`, whose bytes are in `bytes`. Returns `None` if a change isn't
+/// Returns the commands of `changes`, whose bytes are in `bytes`, or `None` if a change isn't
 /// valid.
 pub(crate) fn asked_changes<'a>(
     alloc: Global,

@@ -11,7 +11,7 @@ use byte_registry::ask;
 use requests::{Command, Reply};
 use std::alloc::Global;
 
-/// If the reply has an image, puts the image into the buffers; otherwise reports the reply.
+/// Puts the image of the reply into the buffers. If the reply has no image, reports the reply.
 fn tell_bind(
     alloc: Global,
     reply: &Reply,
@@ -32,7 +32,7 @@ fn tell_bind(
 }
 
 /// Binds a program with the registry on the disk `disk`, and puts the image into the buffers. If
-/// that isn't possible, reports why.
+/// this is impossible, reports why.
 pub fn bind_on(
     alloc: Global,
     disk: &[u8],

@@ -19,8 +19,8 @@ use image::Image;
 use requests::{Command, Reply};
 use std::alloc::Global;
 
-/// Returns the number of `refusal`. The numbers rise from 401 in the order of the tests. 406 was
-/// the number of a test that no image failed, and isn't used again.
+/// Returns the number of `refusal`. The numbers are from 401, in the order of the tests. 406 was
+/// the number of a test that accepted every image, and isn't used again.
 fn executable_status(refusal: &ExecutableRefusal) -> u32
     ensures { result ≡ executable_number refusal.now }
 {
@@ -76,8 +76,8 @@ fn give_image(alloc: Global, image: &Image, bytes: &mut [u8], text: &mut [u8]) -
     }
 }
 
-/// If the reply has an image, puts the image's executable file into the buffer; otherwise reports
-/// the reply.
+/// Puts the executable file for the image of the reply into the buffer. If the reply has no image,
+/// reports the reply.
 fn tell_bound(alloc: Global, reply: &Reply, bytes: &mut [u8], text: &mut [u8]) -> Answer
     ensures told { IsBoundTold reply.now bytes.new text.new result result.status }
     ensures left { result.status ≢ 0 → bytes.new ≡ bytes.old }
@@ -90,7 +90,7 @@ fn tell_bound(alloc: Global, reply: &Reply, bytes: &mut [u8], text: &mut [u8]) -
     }
 }
 
-/// Binds a program, and puts its executable file into the buffer. If that isn't possible, reports
+/// Binds a program, and puts its executable file into the buffer. If this is impossible, reports
 /// why. Needs up to six times the memory of the image.
 pub fn executable_on(
     alloc: Global,

@@ -1,4 +1,4 @@
-// Puts an image into three buffers: the places of its objects, the places of its segments, and the
+// Puts an image into three buffers: the places of its objects; the places of its segments; and the
 // bytes of all segments, followed by the names of all objects.
 ghost use Rattle.std.specs.Prelude.{◌≡◌, ◌⊎◌, ◌+◌, ◌<◌, ◌-◌, ◌^◌, ◌++◌, length, take, min};
 ghost use Rattle.std.specs.Prelude.{IfSome, IfNone};
@@ -36,9 +36,8 @@ fn objects_bytes(image: &Image) -> u64
     bytes
 }
 
-/// If the two buffers have room, puts the places of an image's segments into `places`, and the
-/// bytes of the segments, one after the other, into `bytes`. Returns the number of these bytes, or
-/// `None` if a buffer is too small.
+/// Puts the places of an image's segments into `places`, and the bytes of the segments, one after
+/// the other, into `bytes`. Returns the number of these bytes, or `None` if a buffer is too small.
 fn put_segments(image: &Image, places: &mut [SegmentPlace], bytes: &mut [u8]) -> Option<usize>
     ensures end { IfSome result (λ end. end ≡ length (segment_bytes image.now.segments)) }
     ensures bytes { IfSome result (λ end.
@@ -60,9 +59,8 @@ fn put_segments(image: &Image, places: &mut [SegmentPlace], bytes: &mut [u8]) ->
     Some(at)
 }
 
-/// If the two buffers have room, puts the places of an image's objects into `places`, and the
-/// objects' names, from the offset `from` on, into `bytes`. Returns the offset after the last name,
-/// or `None` if a buffer is too small.
+/// Puts the places of an image's objects into `places`, and the objects' names into `bytes`, from
+/// offset `from` on. Returns the offset after the last name, or `None` if a buffer is too small.
 fn put_objects(
     image: &Image,
     from: usize,
@@ -90,8 +88,8 @@ fn put_objects(
     Some(at)
 }
 
-/// If the three buffers have room, puts an image into them. Returns the number of bytes that the
-/// image has in `bytes`, or `None` if a buffer is too small.
+/// Puts an image into the three buffers. Returns the number of bytes that the image has in `bytes`,
+/// or `None` if a buffer is too small.
 fn lay_out(
     image: &Image,
     objects: &mut [ObjectPlace],
@@ -113,7 +111,7 @@ fn lay_out(
 }
 
 /// Puts an image into the three buffers. If a buffer is too small, the answer has the sizes that
-/// all three buffers need.
+/// are needed for all three buffers.
 pub(crate) fn put_image(
     image: &Image,
     objects: &mut [ObjectPlace],

@@ -6,9 +6,9 @@ ghost use Rattle.c_answers.specs.Changes.{own_bytes};
 #[repr(C)]
 #[derive(Clone, Copy)]
 pub struct ChangePlace {
-    /// The kind of change. Kind 1 installs a library, and kind 2 replaces one; the bytes are the
+    /// The kind of change. Kind 1 installs a library and kind 2 replaces one; the bytes are the
     /// library's file. Kind 3 removes a library; the bytes are its name. Kind 4 sets the preloads;
-    /// the bytes are their names, each with a byte 0 after it.
+    /// the bytes are their names, each followed by a byte 0.
     pub kind: u64,
     /// The offset of the change's bytes in the buffer of bytes.
     pub from: u64,
@@ -16,8 +16,7 @@ pub struct ChangePlace {
     pub length: u64,
 }
 
-/// Returns the bytes of a change in `bytes`, or `None` if the change's bytes don't lie within
-/// `bytes`.
+/// Returns the bytes of a change, or `None` if they don't lie within `bytes`.
 pub(crate) fn own_bytes<'a>(change: &ChangePlace, bytes: &'a [u8]) -> Option<&'a [u8]>
     ensures { MatchOption result (length bytes.now < change.now.from + change.now.length)
         (λ own. (change.now.from + change.now.length ≤ length bytes.now)

@@ -22,7 +22,7 @@ use sector_disk::Disk;
 use std::alloc::Global;
 use store::Store;
 
-/// Returns the number of bytes of the libraries' names, each with a byte 0 after it, or 2^64 - 1 if
+/// Returns the number of bytes of the libraries' names, each followed by a byte 0, or 2^64 - 1 if
 /// the number is greater.
 fn names_bytes<D: Disk>(store: &Store<D>) -> u64
     ensures { (s : State) → IsAt D.facts store.now s
@@ -67,7 +67,7 @@ fn put_findings<D: Disk>(
 }
 
 /// Tests each library, and puts the findings into the two buffers. If a buffer is too small, reads
-/// no file, and the answer has the sizes that both buffers need.
+/// no file, and returns the sizes that are needed for both buffers.
 fn look(
     alloc: Global,
     contents: &mut Contents<ReadOnlyDisk<'_>>,
@@ -100,8 +100,8 @@ fn look(
     }
 }
 
-/// Puts the finding of each library of the registry on `disk` into the buffers. If that isn't
-/// possible, reports why.
+/// Puts the finding for each library of the registry on `disk` into the buffers. If this is
+/// impossible, reports why.
 pub fn check_on(
     alloc: Global,
     disk: &[u8],

@@ -10,7 +10,7 @@ use byte_registry::contents_of;
 use requests::Reply;
 use std::alloc::Global;
 
-/// Puts the SHA-256 of the bytes of the library `name` into `digest`. If that isn't possible,
+/// Puts the SHA-256 of the bytes of the library `name` into `digest`. If this is impossible,
 /// reports why.
 pub fn digest_on(
     alloc: Global,

@@ -19,7 +19,7 @@ pub struct EntryPlace {
     pub file_length: u32,
 }
 
-/// Returns the place of an entry whose name is at the offset `at`.
+/// Returns the place of an entry whose name is at offset `at`.
 fn place_of(name: &Name, file_length: u32, at: usize) -> EntryPlace
     ensures { result ≡ place_of at (name.now, file_length) }
 {
@@ -30,7 +30,7 @@ fn place_of(name: &Name, file_length: u32, at: usize) -> EntryPlace
     }
 }
 
-/// Returns the number of bytes of a name with the byte 0 after it, or 2^64 - 1 if the number is
+/// Returns the number of bytes of a name and the byte 0 after it, or 2^64 - 1 if the number is
 /// greater.
 pub(crate) fn name_bytes(name: &Name) -> u64
     ensures { result ≡ min (length name.now + 1) (2 ^ 64 - 1) }
@@ -38,8 +38,8 @@ pub(crate) fn name_bytes(name: &Name) -> u64
     (name.as_bytes().len() as u64).saturating_add(1)
 }
 
-/// If the buffer `names` has room, puts a name and a byte 0 into it at the offset `at`. Returns the
-/// offset after the byte 0, or `None` if the buffer is too small.
+/// Puts a name and a byte 0 into the buffer `names` at offset `at`. Returns the offset after the
+/// byte 0, or `None` if the buffer is too small.
 pub(crate) fn put_name(name: &Name, at: usize, names: &mut [u8]) -> Option<usize>
     ensures end { IfSome result (λ end. end ≡ at + length name.now + 1) }
     ensures front { IfSome result (λ end. take end names.new
@@ -51,8 +51,8 @@ pub(crate) fn put_name(name: &Name, at: usize, names: &mut [u8]) -> Option<usize
     put(names, at, b"\0")
 }
 
-/// If the two buffers have room, puts entry number `index` into them, with the entry's name at the
-/// offset `at`. Returns the offset for the next name, or `None` if a buffer is too small.
+/// Puts entry number `index` into the two buffers, with the entry's name at offset `at`. Returns
+/// the offset for the next name, or `None` if a buffer is too small.
 pub(crate) fn put_entry(
     name: &Name,
     file_length: u32,

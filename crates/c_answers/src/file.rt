@@ -11,7 +11,7 @@ use contents::Unread;
 use requests::{Refusal, Reply};
 use std::alloc::Global;
 
-/// Returns the reason why a library's bytes aren't returned, as the refusal of a command.
+/// Returns the refusal of a command for the reason why a library's bytes aren't returned.
 pub(crate) fn refusal_of(unread: Unread) -> Refusal
     ensures { result ≡ refusal_of unread }
 {
@@ -22,7 +22,7 @@ pub(crate) fn refusal_of(unread: Unread) -> Refusal
     }
 }
 
-/// Puts the bytes of the library `name` into the buffer. If that isn't possible, reports why.
+/// Puts the bytes of the library `name` into the buffer. If this is impossible, reports why.
 pub fn file_on(alloc: Global, disk: &[u8], name: &[u8], bytes: &mut [u8], text: &mut [u8]) -> Answer
     ensures { IsFileAnswered disk.now name.now bytes.new text.new result result.status }
 {

@@ -1,4 +1,4 @@
-// The finding of a library, as a number and as an entry of a buffer.
+// The finding for a library, as a number and as an entry of a buffer.
 ghost use Rattle.std.specs.Prelude.{◌≡◌, ◌<◌, ◌^◌, length, IfSome, IfNone};
 ghost use Rattle.contents.specs.declared.finding.Finding.{Finding};
 ghost use Rattle.c_answers.specs.Check.{HasNumber};
@@ -6,13 +6,13 @@ ghost use Rattle.c_answers.specs.Check.{HasNumber};
 use crate::status::file_number;
 use contents::Finding;
 
-/// The number of the finding that the file is a library with its entry's name.
+/// The number of the finding for a file that is a library with its entry's name.
 const SOUND: u32 = 0;
 
-/// The number of the finding that the file is a library with another name.
+/// The number of the finding for a file that is a library with another name.
 const OTHER_NAME: u32 = 100;
 
-/// The finding of a library that was tested.
+/// The finding for a library that was tested.
 #[repr(C)]
 #[derive(Clone, Copy)]
 pub struct FindingPlace {
@@ -38,7 +38,7 @@ pub(crate) fn finding_number(finding: Finding) -> Option<u32>
     }
 }
 
-/// Returns the place of a library with the finding `finding`, whose name is at the offset `at`.
+/// Returns the place of a library with the finding `finding`, whose name is at offset `at`.
 pub(crate) fn place_of(name: &[u8], finding: u32, at: usize) -> FindingPlace
     requires { length name.now < 2 ^ 32 }
     ensures { result ≡ record {

@@ -17,9 +17,9 @@ pub struct Information {
     pub version: u64,
     /// The number of sectors of the disk.
     pub sectors: u64,
-    /// The number of changes that were made to the registry.
+    /// The number of changes since the disk was formatted.
     pub generation: u64,
-    /// The number of libraries that are installed.
+    /// The number of installed libraries.
     pub libraries: u64,
     /// The number of preloads.
     pub preloads: u64,
@@ -48,7 +48,7 @@ fn information_of(info: Info) -> Information
     }
 }
 
-/// Puts the numbers of the registry on `disk` into `information`. If that isn't possible, reports
+/// Puts the numbers of the registry on `disk` into `information`. If this is impossible, reports
 /// why.
 pub fn info_on(alloc: Global, disk: &[u8], information: &mut Information, text: &mut [u8]) -> Answer
     ensures answered { IsInfoAnswered disk.now information.new text.new result result.status }

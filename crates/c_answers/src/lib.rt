@@ -1,9 +1,8 @@
 //! Computes the answers to calls from C, over the bytes of a disk and in buffers of the caller.
 //!
-//! A call reads the sectors that it is given and writes none. A call that changes a registry
-//! returns a plan: the writes and syncs that the registry would make, in the order in which it
-//! would make them. The caller carries the plan out on the disk. `rlibreg_c` exports a function for
-//! each call.
+//! A call reads the given sectors and writes none. A call that changes a registry returns a plan:
+//! the writes and syncs that the registry would make, in the order in which it would make them. The
+//! caller carries the plan out on the disk. `rlibreg_c` exports a function for each call.
 #![tactic(auto)]
 
 mod answer;

@@ -14,8 +14,8 @@ use byte_registry::{ask, generation_of};
 use requests::{Command, Listing, Reply};
 use std::alloc::Global;
 
-/// Puts `listing`, which is the listing in `reply`, into the buffers, and reports the reply. If a
-/// buffer is too small, the answer has the sizes that both buffers need.
+/// Puts `listing`, the listing of `reply`, into the buffers, and reports the reply. If a buffer is
+/// too small, returns the sizes that are needed for both buffers.
 fn give(
     alloc: Global,
     reply: &Reply,
@@ -39,8 +39,8 @@ fn give(
     }
 }
 
-/// If the reply has a listing, puts the listing into the buffers, and the disk's generation into
-/// the answer. Otherwise reports the reply.
+/// Puts the listing of the reply into the buffers, and the disk's generation into the answer. If
+/// the reply has no listing, reports the reply.
 fn tell_list(
     alloc: Global,
     disk: &[u8],
@@ -63,8 +63,8 @@ fn tell_list(
     }
 }
 
-/// Puts the libraries and preloads of the registry on `disk` into the buffers. If that isn't
-/// possible, reports why.
+/// Puts the libraries and preloads of the registry on `disk` into the buffers. If this is
+/// impossible, reports why.
 pub fn list_on(
     alloc: Global,
     disk: &[u8],

@@ -41,8 +41,8 @@ fn names_bytes(listing: &Listing) -> u64
     library_bytes(&listing.libraries).saturating_add(preload_bytes(&listing.preloads))
 }
 
-/// If the two buffers have room, puts the libraries into them. Returns the offset for the next
-/// name, or `None` if a buffer is too small.
+/// Puts the libraries into the two buffers. Returns the offset for the next name, or `None` if a
+/// buffer is too small.
 fn put_libraries(
     libraries: &[(Name, u32)],
     entries: &mut [EntryPlace],
@@ -63,9 +63,8 @@ fn put_libraries(
     Some(at)
 }
 
-/// If the two buffers have room, puts the preloads into them, after `libraries` libraries, with the
-/// names from the offset `from` on. Returns the offset after the last name, or `None` if a buffer
-/// is too small.
+/// Puts the preloads into the two buffers, after `libraries` libraries, with the names from offset
+/// `from` on. Returns the offset after the last name, or `None` if a buffer is too small.
 fn put_preloads(
     preloads: &[Name],
     libraries: usize,
@@ -89,8 +88,8 @@ fn put_preloads(
     Some(at)
 }
 
-/// If the two buffers have room, puts first the libraries and then the preloads into them. Returns
-/// the number of bytes of the names, or `None` if a buffer is too small.
+/// Puts the libraries and then the preloads into the two buffers. Returns the number of bytes of
+/// the names, or `None` if a buffer is too small.
 fn put_entries(listing: &Listing, entries: &mut [EntryPlace], names: &mut [u8]) -> Option<usize>
     ensures end { IfSome result (λ end. end ≡ length (names_in_row (entries_of listing.now))) }
     ensures entries { IfSome result (λ _. take (length (entries_of listing.now)) entries.new
@@ -110,8 +109,8 @@ fn put_entries(listing: &Listing, entries: &mut [EntryPlace], names: &mut [u8]) 
     )
 }
 
-/// Puts a listing into the two buffers. If a buffer is too small, the answer has the sizes that
-/// both buffers need.
+/// Puts a listing into the two buffers. If a buffer is too small, returns the sizes that are needed
+/// for both buffers.
 pub(crate) fn put_listing(listing: &Listing, entries: &mut [EntryPlace], names: &mut [u8]) -> Answer
     ensures { IsListingGiven listing.now entries.new names.new result result.status }
 {

@@ -38,8 +38,8 @@ fn address_at(base: u64, address: Option<u64>) -> u64
     }
 }
 
-/// Returns the place of an object whose name is at the offset `name`, and whose first segment is
-/// number `first_segment` of the image.
+/// Returns the place of an object whose name is at offset `name`, and whose first segment is number
+/// `first_segment` of the image.
 pub(crate) fn object_place(object: &ImageObject, name: usize, first_segment: usize) -> ObjectPlace
     ensures { result ≡ object_place name first_segment object.now }
 {

@@ -19,7 +19,7 @@ pub struct SegmentPlace {
     pub permissions: u64,
 }
 
-/// Returns the place of a segment whose bytes are at the offset `from`.
+/// Returns the place of a segment whose bytes are at offset `from`.
 pub(crate) fn place_of(segment: &Segment, from: usize) -> SegmentPlace
     ensures { result ≡ place_of from segment.now }
 {

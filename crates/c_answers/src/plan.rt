@@ -19,8 +19,8 @@ use std::alloc::Global;
 /// The number that encodes a sync.
 const SYNC: u32 = u32::MAX;
 
-/// Returns the number of bytes that encode a step: 4 for the number, and for a write also the bytes
-/// of the sector.
+/// Returns the number of bytes that encode a step: 4 for the number and, for a write, the bytes of
+/// the sector.
 fn step_bytes(step: &Step) -> u64
     ensures { result ≡ min (length (step_bytes step.now)) (2 ^ 64 - 1) }
 {
@@ -50,8 +50,8 @@ fn plan_bytes(steps: &[PlannedStep]) -> u64
     bytes
 }
 
-/// If the buffer `plan` has room, encodes a step in it at the offset `at`. Returns the offset after
-/// the step, or `None` if the buffer is too small.
+/// Encodes a step in the buffer `plan` at offset `at`. Returns the offset after the step, or `None`
+/// if the buffer is too small.
 fn put_step(step: &Step, at: usize, plan: &mut [u8]) -> Option<usize>
     ensures end { IfSome result (λ end. end ≡ at + length (step_bytes step.now)) }
     ensures front { IfSome result (λ end. take end plan.new
@@ -71,8 +71,8 @@ fn put_step(step: &Step, at: usize, plan: &mut [u8]) -> Option<usize>
     }
 }
 
-/// If the buffer `plan` has room, encodes a plan in it, which is a sync followed by `steps`.
-/// Returns the number of bytes, or `None` if the buffer is too small.
+/// Encodes a plan, which is a sync followed by `steps`, in the buffer `plan`. Returns the number of
+/// bytes, or `None` if the buffer is too small.
 fn put_steps(steps: &[PlannedStep], plan: &mut [u8]) -> Option<usize>
     ensures end { IfSome result (λ end.
         end ≡ length (plan_bytes (Sync ∷ map (λ p. p.step) steps.now))) }
@@ -89,7 +89,7 @@ fn put_steps(steps: &[PlannedStep], plan: &mut [u8]) -> Option<usize>
 }
 
 /// Puts the plan of an accepted change into the buffer `plan`, and reports the reply Done. If the
-/// buffer is too small, the answer has the needed size.
+/// buffer is too small, returns the size that is needed.
 pub(crate) fn put_done(
     alloc: Global,
     disk: &ByteDisk<'_>,

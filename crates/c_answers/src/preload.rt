@@ -11,7 +11,7 @@ use crate::text::tell_memory;
 use requests::Command;
 use std::alloc::{AllocError, Global};
 
-/// Returns the parts of `row` that the bytes 0 separate.
+/// Returns the parts of `row` between its bytes 0.
 fn parts_of(alloc: Global, row: &[u8]) -> Result<Vec<&[u8]>, AllocError>
     ensures { IfOk result (λ parts. map (λ part. part.now) parts.items
         ≡ slice_split (λ byte. byte == 0) row.now) }
@@ -19,8 +19,8 @@ fn parts_of(alloc: Global, row: &[u8]) -> Result<Vec<&[u8]>, AllocError>
     row.split(|byte| *byte == 0).collect(alloc)
 }
 
-/// Returns the names in `bytes`, each of which has a byte 0 after it. Returns `None` if the last
-/// byte isn't 0.
+/// Returns the names in `bytes`. Each name is followed by a byte 0. Returns `None` if the last byte
+/// isn't 0.
 pub(crate) fn names_in(alloc: Global, bytes: &[u8]) -> Result<Option<Vec<&[u8]>>, AllocError>
     ensures { IfOk result (λ read. MatchOption read
         ((list : List (List ℕ)) → AreNames list bytes.now → ⊥)

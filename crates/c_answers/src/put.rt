@@ -4,11 +4,11 @@ ghost use Rattle.std.specs.Prelude.{replicate};
 
 use image::Memory;
 
-/// The number of bytes that are compared at once: the size of a page.
+/// The maximum number of bytes that are compared at once: the size of a page.
 const PAGE: usize = 4096;
 
-/// If the buffer `out` has room, puts `bytes` into it at the offset `at`. Returns the offset after
-/// these bytes, or `None` if the buffer is too small.
+/// Puts `bytes` into the buffer `out` at offset `at`. Returns the offset after these bytes, or
+/// `None` if the buffer is too small.
 pub(crate) fn put(out: &mut [u8], at: usize, bytes: &[u8]) -> Option<usize>
     ensures end { IfSome result (λ end. end ≡ at + length bytes.now) }
     ensures inside { IfSome result (λ end. end ≤ length out.new) }
@@ -26,7 +26,7 @@ pub(crate) fn put(out: &mut [u8], at: usize, bytes: &[u8]) -> Option<usize>
     Some(end)
 }
 
-/// Writes `bytes` over a buffer of the same length, unless the buffer has the same bytes already.
+/// Writes `bytes` over a buffer of the same length, unless the buffer already has these bytes.
 fn put_over(out: &mut [u8], bytes: &[u8])
     requires { length out.old ≡ length bytes.now }
     ensures { out.new ≡ bytes.now }
@@ -36,7 +36,7 @@ fn put_over(out: &mut [u8], bytes: &[u8])
     }
 }
 
-/// Writes `bytes` into a buffer at the offset `at`.
+/// Writes `bytes` into a buffer at offset `at`.
 fn put_at(out: &mut [u8], at: usize, bytes: &[u8])
     requires { at + length bytes.now ≤ length out.old }
     ensures front { take (at + length bytes.now) out.new ≡ take at out.old ++ bytes.now }
@@ -45,8 +45,8 @@ fn put_at(out: &mut [u8], at: usize, bytes: &[u8])
     put_over(&mut out[at..at + bytes.len()], bytes);
 }
 
-/// Sets all bytes of a buffer to 0. Doesn't write a page that has only zeros, so a page that the
-/// system provides as zeros needs no memory.
+/// Sets all bytes of a buffer to 0. Doesn't write a page that already has only zeros, so that a
+/// page of zeros that the system provides takes no memory.
 fn clear(out: &mut [u8])
     ensures { out.new ≡ replicate (length out.old) 0 }
 {
@@ -69,8 +69,8 @@ fn put_all(out: &mut [u8], memory: &Memory<'_>)
     clear(zeros);
 }
 
-/// If the buffer `out` has room, puts the bytes of a segment into it at the offset `at`. Returns
-/// the offset after these bytes, or `None` if the buffer is too small.
+/// Puts the bytes of a segment into the buffer `out` at offset `at`. Returns the offset after these
+/// bytes, or `None` if the buffer is too small.
 pub(crate) fn put_memory(out: &mut [u8], at: usize, memory: &Memory<'_>) -> Option<usize>
     ensures end { IfSome result (λ end. end ≡ at + length memory.now) }
     ensures inside { IfSome result (λ end. end ≤ length out.new) }

@@ -10,13 +10,13 @@ use image::BindRefusal;
 use requests::Refusal;
 use store::StoreRefusal;
 
-/// The call did its work.
+/// The call succeeded.
 pub(crate) const DONE: u32 = 0;
 
 /// A buffer is too small.
 pub(crate) const NO_ROOM: u32 = 1;
 
-/// An argument doesn't have the form that the call needs.
+/// An argument doesn't have the form that the call requires.
 pub(crate) const BAD_ARGUMENT: u32 = 2;
 
 /// B3: a needed library isn't installed.
@@ -63,8 +63,8 @@ fn bind_status(refusal: &BindRefusal) -> u32
     }
 }
 
-/// Returns the status of a refusal. It is the refusal's number plus 200 for a refusal of a command,
-/// plus 100 for a refusal of a bind, and plus 300 for a refusal of a disk.
+/// Returns the status of a refusal: the refusal's number plus 200 for a refusal of a command, plus
+/// 100 for a refusal of a bind, and plus 300 for a refusal of a disk.
 pub(crate) fn refusal_status(refusal: &Refusal) -> u32
     ensures { result ≡ refusal_number refusal.now }
 {
@@ -139,8 +139,8 @@ pub(crate) fn file_number(refusal: FileRefusal) -> u32
     }
 }
 
-/// If the reason of `refusal` is a refused file, returns the number n of the test En that refuses
-/// the file. Otherwise returns 0.
+/// Returns the number n of the test En that refuses the file, if `refusal` is about a refused file,
+/// and otherwise 0.
 pub(crate) fn file_refusal_number(refusal: &Refusal) -> u32
     ensures { result ≡ file_number_of refusal.now }
 {

@@ -1,4 +1,4 @@
-// Reports what the symbols of a program and its libraries are bound to.
+// Reports the bindings of the symbols of a program and its libraries.
 ghost use Rattle.std.specs.Prelude.{◌≡◌, ◌≢◌, IfOk, IfErr, None, true, if◌then◌else◌};
 ghost use Rattle.byte_disk.specs.ReadOnlyDisk.{read_only_facts};
 ghost use Rattle.bindings.specs.Bindings.{bindings_text};
@@ -44,7 +44,7 @@ fn bound_status(bound: bool) -> u32
     if bound { DONE } else { UNDEFINED }
 }
 
-/// Returns the report of what the symbols of placed objects are bound to.
+/// Returns the report about the bindings of placed objects' symbols.
 fn told_of_bindings(alloc: Global, bindings: &Bindings<'_>) -> Result<Told, Refusal>
     ensures number { IfOk result (λ told.
         told.number ≡ bound_number (undefined_refusal bindings.now)) }
@@ -61,8 +61,8 @@ fn told_of_bindings(alloc: Global, bindings: &Bindings<'_>) -> Result<Told, Refu
     }
 }
 
-/// Returns the report of what the symbols of the objects in `order` are bound to, with the program
-/// at the address `base`.
+/// Returns the report about the bindings of the symbols of the objects in `order`, with the program
+/// at `base`.
 fn told_of_order(alloc: Global, order: &Order<'_>, base: u64) -> Result<Told, Refusal>
     requires { is_good_base (file_at order.now 0) base ≡ true }
     ensures ok { IfOk result (λ told.
@@ -75,7 +75,7 @@ fn told_of_order(alloc: Global, order: &Order<'_>, base: u64) -> Result<Told, Re
     }
 }
 
-/// Returns the report of what the symbols are bound to, for a program and all the libraries that it
+/// Returns the report about the bindings of the symbols of a program and all the libraries that it
 /// needs.
 fn told_of_whole(
     alloc: Global,
@@ -94,7 +94,7 @@ fn told_of_whole(
     }
 }
 
-/// Returns the report of which libraries were found and which are missing.
+/// Returns the report about the found and the missing libraries.
 fn told_of_dependencies(alloc: Global, dependencies: &Dependencies<'_>) -> Result<Told, Refusal>
     ensures number { IfOk result (λ told. told.number ≡ 103) }
     ensures text { IfOk result (λ told. told.text.items ≡ dependencies_text
@@ -112,8 +112,8 @@ fn told_of_dependencies(alloc: Global, dependencies: &Dependencies<'_>) -> Resul
     }
 }
 
-/// Returns the report of which libraries are missing, for a program and the libraries that were
-/// found for it.
+/// Returns the report about the missing libraries, for a program and the libraries that were found
+/// for it.
 fn told_of_lacking(
     alloc: Global,
     program: &Admitted<'_>,
@@ -173,7 +173,7 @@ fn told_of_admitted(
     }
 }
 
-/// Returns the report about a program at the address `base`, or the reason why there is none.
+/// Returns the report about a program at `base`, or the reason why there is none.
 fn told_of_program(
     registry: &mut Registry<ReadOnlyDisk<'_>>,
     alloc: Global,
@@ -191,9 +191,9 @@ fn told_of_program(
     }
 }
 
-/// Puts into the buffer a text that states what the symbols of a program and its libraries are
-/// bound to. If libraries are missing, the text states which libraries were found and which are
-/// missing. If there is no text, reports why.
+/// Puts a text about the bindings of the symbols of a program and its libraries into the buffer. If
+/// libraries are missing, the text is about the found and the missing libraries instead. If there
+/// is no text, reports why.
 pub fn bindings_on(
     alloc: Global,
     disk: &[u8],

@@ -1,4 +1,4 @@
-// The text of a call's answer, which is the line or the reply that the program prints.
+// The text of a call's answer: the line or the reply that the program `rlibreg` prints.
 ghost use Rattle.std.specs.Prelude.{◌≡◌, ◌↔◌, IsTrue};
 ghost use Rattle.c_answers.specs.Answers.{HasText, WantsMemory, IsToldAlone, IsTurnedAway};
 ghost use Rattle.c_answers.specs.Numbers.{reply_number, file_number_in};
@@ -14,8 +14,8 @@ use store::StoreRefusal;
 /// The line for refused memory.
 const MEMORY_LINE: &[u8] = b"refused S11 OutOfMemory\n";
 
-/// Puts the beginning of `whole` into the buffer `text`: as many bytes as `text` has room for.
-/// Returns the length of `whole`.
+/// Puts the first bytes of `whole` into the buffer `text`, as many as fit. Returns the length of
+/// `whole`.
 pub(crate) fn put_text(whole: &[u8], text: &mut [u8]) -> u64
     ensures { HasText whole.now text.new result }
 {
@@ -45,8 +45,8 @@ fn reply_status(reply: &Reply) -> u32
     }
 }
 
-/// If the reason of the reply's refusal is a refused file, returns the number n of the test En that
-/// refuses the file. Otherwise returns 0.
+/// Returns the number n of the test En that refuses the file, if the reply is a refusal about a
+/// refused file, and otherwise 0.
 fn reply_file_refusal(reply: &Reply) -> u32
     ensures { result ≡ file_number_in reply.now }
 {
@@ -63,9 +63,8 @@ fn is_failure(reply: &Reply) -> bool
     matches!(reply, Reply::Refused(Refusal::Device))
 }
 
-/// Reports the reply to a command. If memory for the text is refused, or if a call of the disk
-/// failed, reports that memory was refused. A call of a disk of bytes fails only for lack of
-/// memory.
+/// Reports the reply to a command. If memory for the text is refused, or a call of the disk failed,
+/// reports that memory was refused: a call of a disk of bytes fails only if memory is refused.
 pub(crate) fn tell(alloc: Global, reply: &Reply, text: &mut [u8]) -> Answer
     ensures { IsToldAlone reply.now text.new result result.status }
 {

@@ -18,7 +18,7 @@ use byte_registry::ask_update;
 use requests::{Command, Refusal, Reply};
 use std::alloc::Global;
 
-/// Reports which change is refused, and why. `before` is the number of changes before the refused
+/// Reports the refused change and the reason. `before` is the number of changes before the refused
 /// one.
 fn tell_refusal(alloc: Global, before: usize, refusal: Refusal, text: &mut [u8]) -> Answer
     ensures { IsRefusedTold before refusal text.new result result.status }
@@ -66,7 +66,7 @@ fn plan_commands(
     }
 }
 
-/// Plans an update with the changes `asked`, which were read, or reports why the update is refused.
+/// Plans an update with the changes `asked`, or reports why the update is refused.
 fn plan_asked(
     alloc: Global,
     disk: &[u8],
@@ -84,8 +84,8 @@ fn plan_asked(
     }
 }
 
-/// Plans an update with `changes`, whose bytes are in the buffer `bytes`, or reports which change
-/// is refused, and why. If a change isn't valid, no change is tested.
+/// Plans an update with `changes`, whose bytes are in the buffer `bytes`, or reports the refused
+/// change and the reason. If a change isn't valid, tests no change.
 pub fn plan_update(
     alloc: Global,
     disk: &[u8],

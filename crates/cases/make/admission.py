@@ -12,7 +12,7 @@ from samples import (
 
 
 def made(name, o):
-    """Writes an object, and gives its case and where its parts begin."""
+    """Writes an object. Returns its case, and the places at which its parts begin."""
     data, at = build(o)
     (DATA / name).write_bytes(data)
     return Case(name), at
@@ -30,7 +30,7 @@ def image(file, base=BASE, wanted=None):
 
 
 def bound(file, answer):
-    """A program that is bound, and whose text is worked out by the second reading."""
+    """A program that is bound. The second reading determines the text of its image."""
     text = rules.image_text(file.bytes(), BASE)
     assert not text.startswith('refused'), (str(file), text)
     (DATA / answer).write_text(text)
@@ -38,14 +38,15 @@ def bound(file, answer):
 
 
 def admit(file, wanted=None):
-    """Whether a file is admitted; `wanted` was worked out by hand, '' for no refusal."""
+    """A case of whether a file is admitted. `wanted` was determined by hand: it is the refusal, or '' for no
+    refusal."""
     refusal = rules.admitted_refusal(file.bytes())
     assert wanted is None or (refusal or '') == wanted, (str(file), wanted, refusal)
     return f"admit {file} => {'refused ' + refusal if refusal else 'admitted'}"
 
 
 def library(file, wanted=None):
-    """Whether a file is a library, and its name."""
+    """A case of whether a file is a library, and of its name."""
     refusal = rules.library_refusal(file.bytes())
     assert wanted is None or (refusal or '') == wanted, (str(file), wanted, refusal)
     if refusal:
@@ -62,7 +63,7 @@ def find(file, name, wanted=None):
     return f"find {file} {word} => {'none' if found is None else found} of {count}"
 
 
-# Changes of minimal.so that only the whole reading refuses, as a program.
+# Changes of minimal.so that are refused, as a program, only if the whole file is read.
 TABLE = [
     ([(0xf8, u8(0x05))], 'E16 DuplicateTag'), ([(0xf8, u32(0x6ffffff0))], 'E17 SymbolVersions'),
     ([(0xf8, u32(0x6ffffffc))], 'E17 SymbolVersions'), ([(0xf8, u32(0x6ffffffe))], 'E17 SymbolVersions'),
@@ -123,13 +124,13 @@ def table():
 
 
 def with_entries(file, entries):
-    """A library with other entries in the place of its extra ones, which stand before the last NULL."""
+    """Returns a library with other entries in place of its extra entries, which are before the last NULL."""
     at = len(file.bytes()) - 8 - 16 - 16 * len(entries)
     return changed(file, (at, b''.join(u64(tag) + u64(value) for tag, value in entries)))
 
 
 def symbolic_tags():
-    """SYMBOLIC and FLAGS beside tags that are refused: as an object and as a library."""
+    """SYMBOLIC and FLAGS together with tags that are refused, as an object and as a library."""
     pair, _ = made('symbolic-tags.so', Object(b'q', entries=[(SYMBOLIC, 0), (FLAGS, 2)]))
     triple, _ = made('symbolic-three-tags.so', Object(b'q', entries=[(SYMBOLIC, 0), (FLAGS, 2), (DEBUG, 0)]))
     return [
@@ -159,7 +160,8 @@ EQUAL = [
 
 
 def pair_of_names(strings, first, second):
-    """The library with two exports in one chain, with other strings behind it, in which their names begin at these offsets."""
+    """Returns the library with two exports in one chain, followed by other strings, in which their names begin at
+    these offsets."""
     fg, at = made('fg.so', Object(soname=b'q', symbols=[export(b'f'), export(b'g')]))
     data, symbol = fg.bytes(), at['symbols'] + 24
     tags = {data[k]: k + 8 for k in range(at['dynamic'], at['data'], 16)}
@@ -190,7 +192,8 @@ def symbols():
     hidden, _ = made('hidden.so', Object(soname=b'q', symbols=[export(b'f', visibility=HIDDEN)] * 2))
     twice, _ = made('twice.so', Object(soname=b'q', symbols=[export(b'f')] * 2))
     weak, _ = made('weak.so', Object(soname=b'q', symbols=[export(b'f'), export(b'f', binding=WEAK)]))
-    # The second symbol's name is the first one's, at one place of the strings: an offset, and nothing twice.
+    # The second symbol's name is at the same place of the strings as the first one's: an offset, and no
+    # string is there twice.
     def at_one_place(name, first=(), second=(), soname=None):
         file, at = made(f'place-{name}.so', Object(soname=soname, symbols=[export(b'f', **dict(first)), export(b'g', **dict(second))]))
         symbol = at['symbols'] + 24
@@ -243,12 +246,12 @@ def tables():
     bucket, chain = h + 8, h + 12
     fgh, at3 = made('fgh.so', Object(soname=b'q', symbols=[export(b'f'), export(b'g'), export(b'h')]))
     h3 = at3['hash']
-    # Two buckets, and f, whose hash is 0x66, under one of them.
+    # Two buckets; f, whose hash is 0x66, is in the chain of one of them.
     wrong, _ = made('bucket-1.so', Object(soname=b'q', symbols=[export(b'f')], hash_words=[2, 2, 0, 1, 0, 0]))
     right, _ = made('bucket-0.so', Object(soname=b'q', symbols=[export(b'f')], hash_words=[2, 2, 1, 0, 0, 0]))
     both, _ = made('bucket-both.so', Object(soname=b'q', symbols=[export(b'f')], hash_words=[2, 2, 1, 1, 0, 0]))
     before, _ = made('undefined-before.so', Object(soname=b'q', symbols=[Symbol(b'u'), export(b'f')]))
-    # Five buckets for three symbols: f, whose hash is 102, belongs under number 2, and g, whose hash is 103, under number 3.
+    # Five buckets for three symbols: f, whose hash is 102, belongs to bucket 2, and g, whose hash is 103, to bucket 3.
     wide, at5 = made('five-buckets.so', Object(
         soname=b'q', symbols=[export(b'f'), export(b'g')], hash_words=[5, 3, 0, 0, 1, 2, 0, 0, 0, 0]))
     under = lambda *words: changed(wide, (at5['hash'] + 8, b''.join(u32(w) for w in words)))
@@ -257,7 +260,7 @@ def tables():
     none, _ = made('no-chains.so', Object(soname=b'q', hash_words=[1, 0, 0]))
     middle, _ = made('into-a-chain.so', Object(
         soname=b'q', symbols=[export(b'f'), export(b'g'), export(b'h')], hash_words=[2, 4, 1, 2, 0, 2, 3, 0]))
-    # f and h have even hashes, g an odd one.
+    # The hashes of f and h are even, and that of g is odd.
     assert [rules.elf_hash(n) % 2 for n in (b'f', b'g', b'h')] == [0, 1, 0]
     bad = 'E29 BadHashTable'
     write_list('admission-tables.txt', [
@@ -300,7 +303,8 @@ def tables():
 
 
 def bounds():
-    """Tables that end with their segment, and one byte more: the strings stand last, at the end of the file."""
+    """Tables that end with their segment, and tables that are one byte longer: the strings are last, at the end of the
+    file."""
     m = Case('minimal.so')
     end = 0x190
     strings, size, table, sym, rela = 0x110, 0x130, 0x100, 0x120, 0x150
@@ -397,7 +401,7 @@ def programs():
 
 
 def word(file, at, value):
-    """The eight bytes at the start of the data of a program, which were worked out by hand."""
+    """A case of the eight bytes at the start of a program's data, which were determined by hand."""
     return [byte(file, BASE, BASE + at['data'] + k, b) for k, b in enumerate((value % (1 << 64)).to_bytes(8, 'little'))]
 
 

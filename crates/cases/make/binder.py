@@ -1,7 +1,7 @@
-"""A second reading of the rules of binding with libraries, plain and slow, for expected answers.
+"""A second reading of the rules of binding with libraries, simple and slow, for expected answers.
 
-It shares nothing with the program. Each rule is a method, so that a reading that breaks one is a class of its own
-(`binds.py` has those, and sees that its cases tell each of them from this one).
+It shares no code with the program. Each rule is a method, so that a class can break one rule (`binds.py` has such
+classes, and checks that some case distinguishes each of them from this class).
 """
 
 from rules import HIGHEST_END, NEEDED, Elf, admitted_refusal, find, own_address, printed_name, unit
@@ -10,7 +10,7 @@ WHOLE = 1 << 64
 
 
 class Placed:
-    """An object in load order, at a base once it has one."""
+    """An object in load order. It gets a base when it is placed."""
 
     def __init__(self, name, data, number):
         self.name, self.data, self.elf, self.number, self.base = name, data, Elf(data), number, None
@@ -23,7 +23,7 @@ class Placed:
 
 
 class Binder:
-    """The rules. Libraries are (name, bytes) in the order of installation; preloads are names."""
+    """The rules. Libraries are pairs (name, bytes) in the order of installation; preloads are names."""
 
     def level_0(self, program, libraries, preloads):
         installed = dict(libraries)
@@ -97,7 +97,7 @@ class Binder:
         return 0 if symbol['binding'] == 2 else None
 
     def value(self, order, o, i):
-        """The value of a symbol, or None where it is undefined."""
+        """Returns the value of a symbol, or None if the symbol is undefined."""
         if i == 0:
             return 0
         symbol = o.elf.symbol(i)
@@ -141,7 +141,7 @@ class Binder:
         return undefined and 'B5 Undefined ' + ' '.join(map(printed_name, undefined))
 
     def bind(self, program, base, libraries, preloads):
-        """A refusal, or the objects at their bases in load order."""
+        """Returns a refusal, or the objects at their bases in load order."""
         refusal = admitted_refusal(program)
         if refusal:
             return 'B1 ' + refusal, None
@@ -156,7 +156,7 @@ class Binder:
         return None, order
 
     def patches(self, order):
-        """The words that relocations write, each with its address, in their order."""
+        """Returns the words that relocations write, each with its address, in their order."""
         for o in order:
             for place, kind, symbol, addend in self.relocations(o):
                 value = self.written(order, o, kind, symbol, addend)

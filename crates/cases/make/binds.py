@@ -3,8 +3,8 @@
 
     python3 crates/cases/make/binds.py
 
-Every answer stands here as it was worked out by hand from the rules, and agrees with `binder.py`, the second reading.
-`WRONG` has readings that break a rule each: for every one of them some case has to give another answer.
+This file has each answer, which was determined by hand from the rules and agrees with `binder.py`, the second
+reading. `WRONG` has readings that break one rule each. For each of them, some case has to give another answer.
 """
 
 import struct
@@ -18,12 +18,12 @@ from samples import (
     R_JUMP_SLOT, R_NONE, R_RELATIVE, UNDEFINED, WEAK, Object, Symbol, build, program_header)
 from wrong_binders import WRONG
 
-ASKED = []  # every call that has an answer here: what it asks, its arguments, and the answer
+ASKED = []  # each call with an answer in this file: its name, its arguments, and the answer
 HIGHEST = 0x7ffffffff000
 
 
 class Bind:
-    """A program at a base with libraries, each a file or a file and a name, and preloads."""
+    """A program at a base with preloads and libraries; a library is a file, or a file and a name."""
 
     def __init__(self, program, libraries=(), preloads=(), base=BASE):
         self.program, self.preloads, self.base = program, [n.encode() for n in preloads], base
@@ -53,13 +53,13 @@ def spelt_name(name):
 
 
 def kept(name, o):
-    """The file of an object, in the folder."""
+    """Writes the file of an object to the folder."""
     (DATA / name).write_bytes(build(o)[0])
     return Case(name)
 
 
 def near(case, o):
-    """The file of an object, spelt as one of the folder that has its length, with changes."""
+    """Returns the file of an object, described as changes of a file of the folder with the same length."""
     old, new = (DATA / case.name).read_bytes(), build(o)[0]
     assert len(old) == len(new), (case.name, len(old), len(new))
     changes, k = [], 0
@@ -84,7 +84,8 @@ def asked(what, arguments, wanted):
 
 
 def order(bind, *names, bases=None, refused=None):
-    """A case of `order`: the names behind `/program`, each a page behind the one before but where bases are given."""
+    """Returns a case of `order`: the names after `/program`. Without given bases, each object is one page after the
+    object before it."""
     names = ('/program',) + names
     bases = bases or [bind.base + 0x1000 * i for i in range(len(names))]
     wanted = f'refused {refused}' if refused else 'objects' + ''.join(f' 0x{b:016x} {n}' for b, n in zip(bases, names))
@@ -94,20 +95,20 @@ def order(bind, *names, bases=None, refused=None):
 
 
 def refused(bind, wanted):
-    """A case of `bind` that is refused."""
+    """Returns a case of `bind` that is refused."""
     asked('text', bind.arguments(), f'refused {wanted}\n')
     return f'bind {bind} => refused {wanted}'
 
 
 def word(bind, address, wanted):
-    """A case of `word`: a number, or the line of a refusal, or none."""
+    """Returns a case of `word`: a number, the line of a refusal, or none."""
     wanted = f'0x{wanted:x}' if isinstance(wanted, int) else wanted
     asked('word', (address,) + bind.arguments(), wanted)
     return f'word 0x{address:x} {bind} => {wanted}'
 
 
 def text(bind, file, *lines):
-    """A case of `bind` with its whole text; these lines in it were worked out by hand."""
+    """Returns a case of `bind` with its whole text. The given lines of the text were determined by hand."""
     whole = Binder().text(*bind.arguments())
     assert all(f'{line}\n' in whole for line in lines), (file, lines)
     (DATA / file).write_text(whole)
@@ -115,7 +116,8 @@ def text(bind, file, *lines):
     return f'bind {bind} => file {file}'
 
 
-# Objects without symbols, which need up to three libraries: the names of these, and that of a library, are letters.
+# Objects without symbols that need up to three libraries. The names of these libraries, and of a library itself,
+# are letters.
 def needing_library(name, needed):
     return Object(name.encode(), [n.encode() for n in needed])
 
@@ -236,18 +238,18 @@ def load_orders():
     ])
 
 
-# The library a with a weak function f, the library b with a strong one, and the program that needs both and writes f's
-# value at its data.
+# The library a with a weak function f, the library b with a strong f, and the program that needs both and writes f's
+# value into its data.
 A = Object(b'a', symbols=[Symbol(b'f', WEAK, FUNC, DEFINED)])
 B = Object(b'b', symbols=[Symbol(b'f', GLOBAL, FUNC, DEFINED)])
 P = Object(needed=[b'a', b'b'], symbols=[Symbol(b'f')], relocations=[(R_64, 0, 1, 0)])
-# A protected function of a library, and the word that the library has of it.
+# A protected function of a library, and the library's own word of this function.
 OWN = Object(b'b', symbols=[Symbol(b'f', GLOBAL, FUNC, DEFINED, 8, PROTECTED)], relocations=[(R_GLOB_DAT, 0, 1, 0)], data=16)
 P_WORD = 0x101c8
 
 
 def one_symbol(soname, relocations=None, **fields):
-    """The library a or b, or where it has relocations the program, with another f."""
+    """Returns the library a or b with another f, or, if it has relocations, the program."""
     fields = dict(dict(name=b'f', binding=GLOBAL, kind=FUNC, section=DEFINED), **fields)
     return Object(soname, symbols=[Symbol(**fields)])
 
@@ -328,8 +330,8 @@ def first_definitions():
     ]
 
 
-# The value of a symbol of b by its binding, its visibility and whether b defines it: where a, which comes before b,
-# exports its name; where nobody but b can; where c, which comes after b, exports it.
+# The value of a symbol of b, by its binding, its visibility and whether b defines it: if a, which comes before b,
+# exports its name; if only b can export it; and if c, which comes after b, exports it.
 OF_OTHER, OF_OWN, OF_LATER, ZERO, NOTHING, AT_BASE = 'a', 'b', 'c', '0', 'undefined', 'base of b'
 VALUES = {
     (LOCAL, DEFAULT, True): (OF_OWN, OF_OWN, OF_OWN), (LOCAL, INTERNAL, True): (OF_OWN, OF_OWN, OF_OWN),
@@ -350,14 +352,14 @@ SEEN = {DEFAULT: 'DEFAULT', INTERNAL: 'INTERNAL', HIDDEN: 'HIDDEN', PROTECTED: '
 
 
 def three_words(binding, visibility, section, kind=FUNC):
-    """b with a symbol f, and the word of it by each type of relocation, each with the addend 0x30."""
+    """Returns b with a symbol f, and with a word of f by each type of relocation, each with the addend 0x30."""
     at = 24 if section == DEFINED else 0
     return Object(b'b', symbols=[Symbol(b'f', binding, kind, section, at, visibility)],
                   relocations=[(R_64, 0, 1, 0x30), (R_GLOB_DAT, 8, 1, 0x30), (R_JUMP_SLOT, 16, 1, 0x30)], data=32)
 
 
 def values_of(first, o, result):
-    """The three words of b, which stands at 0x12000 behind a and before c."""
+    """Returns the three words of b, which is at 0x12000, after a and before c."""
     data = places(o)['data']
     defining = a_with(binding=WEAK) if first == 'a' else a_with(binding=LOCAL)
     later = near(Case('first.so'), one_symbol(b'c', binding=GLOBAL if first == 'c' else LOCAL))
@@ -382,7 +384,7 @@ def table_of_values():
 
 
 def types_that_ask():
-    """Types of the symbol that asks: they count only where it might be its own definition."""
+    """Types of the symbol that a relocation names: they matter only if the symbol may be its own definition."""
     undefined, own = [], []
     for kind, binding in product((0, 1, 2, 3, 4, 7, 15), (GLOBAL, WEAK)):
         o = three_words(binding, DEFAULT, UNDEFINED, kind)
@@ -395,7 +397,7 @@ def types_that_ask():
 
 
 def definitions_of_every_kind():
-    """a's f of each binding, visibility, type and section, and b's behind it."""
+    """a's f of each binding, visibility, type and section, and b's f after it."""
     parts = []
     for binding, visibility in product((LOCAL, GLOBAL, WEAK), (DEFAULT, INTERNAL, HIDDEN, PROTECTED)):
         lines = []
@@ -411,7 +413,7 @@ def definitions_of_every_kind():
 
 
 def with_jmprel(o, first):
-    """An object whose relocations up to `first` stand in DT_JMPREL, and the others in DT_RELA."""
+    """Returns an object whose relocations up to `first` are in DT_JMPREL, and the others in DT_RELA."""
     o.entries = [(23, 0), (2, 24 * first), (20, 7)]
     table = build(o)[1]['relocations']
     o.entries[0] = (23, table)
@@ -480,7 +482,7 @@ def index_zero():
 
 
 def same_bytes():
-    """A program and a library of the same bytes, which define f as protected, and have a word of it and one of g."""
+    """A program and a library of the same bytes. They define f as protected, and have a word of f and a word of g."""
     o = Object(b'p', [b'p'], [Symbol(b'f', GLOBAL, FUNC, DEFINED, 16, PROTECTED), Symbol(b'g', GLOBAL, OBJECT, DEFINED, 20)],
                [(R_64, 0, 1, 0), (R_64, 8, 2, 0)], data=24)
     both, at = written('twin.so', build(o))
@@ -583,7 +585,8 @@ def order_of_tests():
 
 
 def edges_of_segments():
-    """A library whose data end with a segment that another one touches, and a word in the last eight bytes of the first."""
+    """A library whose data end with a segment that touches another segment, and a word in the last eight bytes of the
+    first segment."""
     o = Object(b'a', symbols=[Symbol(b'f', GLOBAL, FUNC, DEFINED)], relocations=[(R_64, 8, 1, 0)], data=16, headers=[bytes(56)])
     end = places(o)['data'] + 16
     o.headers = [program_header(1, 6, 0, end, 0, 16, 0)]
@@ -631,7 +634,7 @@ def wrong():
 
 
 def tells_wrong_readings():
-    """Every reading that breaks a rule gives another answer in some case."""
+    """Checks that every reading that breaks a rule gives another answer in some case."""
     for reading in WRONG:
         def differs(row):
             what, arguments, wanted = row

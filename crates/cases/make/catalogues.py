@@ -1,4 +1,4 @@
-"""Cases of disks with many libraries, and so with several catalogues, and of catalogues and roots that are damaged."""
+"""Cases of disks with many libraries, and therefore several catalogues, and cases of damaged catalogues and roots."""
 
 import struct
 
@@ -20,27 +20,29 @@ def hexed(form, *values):
 
 
 def one_library(i):
-    """The changes that write library i: the sectors of the first one, with its own name in the file and in the entry, and its place."""
+    """Returns the changes that write library i: the sectors of the first library, with another name in the file and in
+    the entry, and another place."""
     at, digits = SECTOR * (2 * i + 2), numbered(i)[1:].hex()
     return f'0x{at:x}=@numbered.sectors 0x{at + 0xda:x}={digits} 0x{at + 0x211:x}={digits} 0x{at + 0x300:x}={hexed("H", 2 * i + 2)}'
 
 
 def a_behind(i):
-    """The changes that write the library a in the place of library i."""
+    """Returns the changes that write the library a in place of library i."""
     at = SECTOR * (2 * i + 2)
     entry = hexed('4sIHHI', b'LIBE', 344, 1, 1, 0)
     return f'0x{at:x}=@{A} 0x{at + 0x200:x}={entry}61 0x{at + 0x300:x}={hexed("II", 2 * i + 2, 1)}'
 
 
 def catalogue_of(count, j):
-    """The changes that write catalogue j of a list of so many libraries: library i has its entry in sector 2i + 3."""
+    """Returns the changes that write catalogue j of a list of `count` libraries. Library i has its entry in sector
+    2i + 3."""
     at, libraries = SECTOR * (2 * count + 2 + j), range(64 * j, min(64 * (j + 1), count))
     return f'0x{at:x}={b"LIBC".hex()}{hexed("H", len(libraries))} 0x{at + 16:x}=' + ''.join(hexed('I', 2 * i + 3) for i in libraries)
 
 
 def made(count, sectors, last=one_library):
-    """The text of a disk of so many libraries, of generation 1: the data of library i is in sector 2i + 2, its entry in the next one,
-    and the catalogues are behind them all. `last` writes the last library."""
+    """Returns the text of a disk of `count` libraries and generation 1. The data of library i is in sector 2i + 2, its
+    entry is in the next sector, and the catalogues follow all of these. `last` writes the last library."""
     catalogues = range(2 * count + 2, 2 * count + 2 + catalogues_for(count))
     lines = [f'bytes={ROOT}{hexed("QI", 0, sectors)} pad={SECTOR * sectors}',
              f'0x200={ROOT}{hexed("QIH", 1, sectors, count)} 0x238={hexed("H", len(catalogues))} 0x240=' + ''.join(hexed('I', k) for k in catalogues)]
@@ -93,7 +95,7 @@ def sixty_fours():
 
 
 def edges():
-    """Lists around the edge of the second catalogue, and of the first."""
+    """Lists of about as many libraries as one catalogue, and as two catalogues, have room for."""
     four, full, third = 'made=sixty-four.changes', 'made=two-full.changes', 'made=two-full-and-one.changes'
     fullest, roomy = f'{full} cut=134144 0x210=06', f'{third} pad=138240 0x210=0e'
     return [
@@ -133,7 +135,8 @@ def edges():
 
 
 def split_at(first):
-    """The changes that make the first catalogue of 65 libraries list so many, and the second the others, as far as there are places."""
+    """Returns the changes by which the first catalogue of 65 libraries lists `first` entries, and the second lists the
+    others, up to its number of places."""
     entries, second = [2 * i + 3 for i in range(65)], min(65 - first, 64)
     return (f'0x10804={hexed("H", first)} 0x10810={hexed("64I", *entries[:first], *[0] * (64 - first))}'
             f' 0x10a04={hexed("H", second)} 0x10a10={hexed(f"{second}I", *entries[first:first + second])}')
@@ -219,17 +222,18 @@ ENTRY_BYTES = (*range(5, 18), *range(18, 256, 8), *range(256, 272), *range(272, 
 
 
 def raised(name, at):
-    """A disk with one byte raised by one."""
+    """Returns a disk with one byte increased by one."""
     return f'{name} 0x{at:x}={(bytes_of(name)[at] + 1) % 256:02x}'
 
 
 def turned(name, at):
-    """A disk with the highest bit of one byte turned."""
+    """Returns a disk with the highest bit of one byte flipped."""
     return f'{name} 0x{at:x}={bytes_of(name)[at] ^ 0x80:02x}'
 
 
 def single_bytes():
-    """A root, an entry and a catalogue with one byte raised by one: each byte of a field, and some of those that have to be zero."""
+    """A root, an entry and a catalogue, each with one byte increased by one: each byte of a field, and some of the
+    bytes that have to be zero."""
     def bad(start, *places):
         return [on(raised('one.disk', start + at), 'list disk', S5, 'same') for at in places]
     root, entry, catalogue = 0x200, 0x600, 0x800
@@ -251,7 +255,7 @@ def single_bytes():
 
 
 def old_bytes(root, entry):
-    """The root and the entry of a disk of version 1, which lie where the others do, with one byte raised by one."""
+    """The root and the entry of a disk of version 1, at the places of the others, with one byte increased by one."""
     def bad(start, *places):
         return [on(raised('old-one.disk', start + at), 'upgrade disk', S5, 'same') for at in places]
     def good(at, has):

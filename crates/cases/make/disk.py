@@ -1,7 +1,7 @@
-"""A second reading of what a registry on a disk is, plain and slow, for expected answers.
+"""A second reading of a registry on a disk, simple and slow, for expected answers.
 
-It shares nothing with the program. Each rule is a method, so that a reading that breaks one is a class of its own
-(`wrong_disks.py` has those).
+It shares no code with the program. Each rule is a method, so that a class can break one rule (`wrong_disks.py` has
+such classes).
 """
 
 from functools import lru_cache
@@ -18,12 +18,12 @@ library_refusal = lru_cache(maxsize=None)(rules.library_refusal)
 
 
 class Refused(Exception):
-    """A refusal, by its number and name."""
+    """A refusal, with its number and its name."""
 
 
 class OnDisk(Model):
-    """A registry on a disk that is bytes: its current root, the sectors of its entries, and the entries; and its binders, each
-    with the sectors of the entries that it may read, and these entries."""
+    """A registry on a disk of bytes: its current root, the sectors of its entries, and the entries; and its binders,
+    each with these entries and with the sectors of the entries that it may read."""
 
     def __init__(self, data):
         self.data, self.slots = bytearray(data), [None] * SLOTS
@@ -49,7 +49,7 @@ class OnDisk(Model):
         return even.generation % 2 == 0 and odd.generation % 2 == 1 and abs(even.generation - odd.generation) == 1
 
     def goes_back(self, newer, older):
-        """Whether a root of version 1 is behind one of version 2: no commit writes that."""
+        """Returns whether a root of version 1 comes after a root of version 2. No commit writes such a root."""
         return newer.version < older.version
 
     def choose(self):
@@ -65,14 +65,14 @@ class OnDisk(Model):
         raise Refused('S5 Damaged')
 
     def catalogue(self, k, wanted):
-        """The entry sectors that a catalogue lists: so many."""
+        """Returns the entry sectors that a catalogue lists. Their number has to be `wanted`."""
         entries = read_catalogue(self.sector(k)) if k < self.count() else None
         if entries is None or len(entries) != wanted:
             raise Refused('S5 Damaged')
         return entries
 
     def listed_entries(self, root):
-        """The sectors of the entries of all libraries."""
+        """Returns the sectors of the entries of all libraries."""
         if root.version == 1:
             return root.listed
         parts = [self.catalogue(k, min(IN_CATALOGUE, root.count - IN_CATALOGUE * j)) for j, k in enumerate(root.listed)]
@@ -82,17 +82,17 @@ class OnDisk(Model):
         return self.root.listed if self.root.version == 2 else []
 
     def used(self, entries):
-        """The sectors of catalogues, entries and files, as often as they are used."""
+        """Returns the sectors of catalogues, entries and files, each as often as it is used."""
         return self.catalogues() + self.places + [k for e in entries for start, n in e.extents for k in range(start, start + n)]
 
     def unspent(self, libraries):
-        """The free sectors that a registry of so many libraries with these entries counts: all that are neither a root's nor an
-        entry's nor a file's, without two for each catalogue."""
+        """Returns the number of free sectors of a registry of `libraries` libraries with these entries: all sectors
+        that belong to no root, entry or file, minus two for each catalogue."""
         entries = self.entries + list(self.only_held().values())
         return self.count() - 2 - sum(sectors_of(e.length) + 1 for e in entries) - 2 * catalogues_for(libraries)
 
     def is_short(self):
-        """Whether its catalogues couldn't be written anew."""
+        """Returns whether there is no room to write the catalogues again."""
         return self.root.version == 2 and self.unspent(len(self.entries)) < 0
 
     def is_sound(self, entries):
@@ -113,7 +113,7 @@ class OnDisk(Model):
             raise Refused('S6 BadGeometry')
 
     def look(self, root):
-        """Reads what a root of either version lists."""
+        """Reads the entries that a root of either version lists."""
         self.root, self.places = root, self.listed_entries(root)
         if any(k >= self.count() for k in self.places):
             raise Refused('S5 Damaged')
@@ -173,11 +173,11 @@ class OnDisk(Model):
         return told
 
     def only_held(self):
-        """What binders have and the registry hasn't: entries by their sectors."""
+        """Returns the entries that only binders have, not the registry, by their sectors."""
         held = {place: entry for flight in self.slots if flight for place, entry in flight.versions}
         return {place: entry for place, entry in held.items() if place not in self.places}
 
-    # Which sectors a change takes
+    # Sectors that a change takes
 
     def free(self):
         held = self.only_held()
@@ -217,7 +217,7 @@ class OnDisk(Model):
         return rest[0]
 
     def places_of(self, need):
-        """The extents of a file, and the sector of its entry."""
+        """Returns the extents of a file, and the sector of its entry."""
         extents = self.take(need)
         return extents, self.take_one([k for start, n in extents for k in range(start, start + n)])
 
@@ -227,11 +227,11 @@ class OnDisk(Model):
         return padded(content, SECTOR)
 
     def part_of_list(self, places):
-        """The entry sectors of each catalogue."""
+        """Returns the entry sectors of each catalogue."""
         return [places[j:j + IN_CATALOGUE] for j in range(0, len(places), IN_CATALOGUE)]
 
     def put_catalogues(self, places, taken):
-        """Writes the catalogues of a list, none where one is, and gives their sectors."""
+        """Writes the catalogues of a list, none of them over an existing catalogue. Returns their sectors."""
         sectors = []
         for part in self.part_of_list(places):
             sectors.append(self.take_one(taken + sectors))
@@ -251,11 +251,12 @@ class OnDisk(Model):
         return self.root.generation == LAST_GENERATION
 
     def is_too_long(self, need, libraries):
-        """Whether a file of so many sectors has no room in a list that then has so many libraries."""
+        """Returns whether there is no room for a file of `need` sectors in a list that then has `libraries`
+        libraries."""
         return need + 1 > self.unspent(libraries)
 
     def put(self, name, file, libraries):
-        """Writes a file and its entry, and gives the entry's sector and all that it took."""
+        """Writes a file and its entry. Returns the entry's sector and all sectors that were taken."""
         need = sectors_of(len(file))
         if self.has_ended():
             raise Refused('S10 GenerationEnd')
@@ -275,11 +276,11 @@ class OnDisk(Model):
         return soname(file)
 
     def new_list(self, place, at):
-        """The entry sectors with another one at a place, or behind them all."""
+        """Returns the entry sectors with another sector at a place, or at the end."""
         return self.places[:place] + [at] + self.places[place + 1:]
 
     def put_listed(self, name, file, place, libraries):
-        """A commit of a file whose entry has this place in the list."""
+        """Makes a commit of a file whose entry has this place in the list."""
         at, taken = self.put(name, file, libraries)
         places = self.new_list(place, at)
         self.commit(self.root.preloads, places, self.put_catalogues(places, taken))

@@ -1,13 +1,13 @@
 #!/usr/bin/env python3
-"""Writes the lists of command lines over disks, `disks.txt`, `catalogues.txt`, `bytes.txt` and `upgrades.txt` of `data/`, and the
-disks and files that they name.
+"""Writes the lists of command lines over disks, `disks.txt`, `catalogues.txt`, `bytes.txt` and `upgrades.txt` of
+`data/`, and the disks and files that they name.
 
     python3 crates/cases/make/disks.py
 
-It needs files that the other scripts of this folder write. Expected statuses, answers and disks come from `program.py` over
-`disk.py`, a second reading of the sectors of a disk and of the changes of a registry; where a case has an answer or sectors of its
-own, worked out by hand, the two have to agree. `wrong_disks.py` has readings that break a rule each: for every one of them some case
-ends otherwise, or this stops.
+It needs files that the other scripts of this folder write. Expected statuses, answers and disks come from `program.py`
+over `disk.py`, a second reading of the sectors of a disk and of the changes of a registry; if a case has an answer or
+sectors that were determined by hand, the two have to agree. `wrong_disks.py` has readings that break one rule each. The
+script stops if no case ends differently by one of them.
 """
 
 import catalogues
@@ -221,7 +221,7 @@ def entry(name, length, *extents):
 
 
 def with_sectors(count, sectors):
-    """A disk of so many sectors, some of which have these bytes."""
+    """Returns a disk of `count` sectors, some of which have these bytes."""
     disk = bytearray(SECTOR * count)
     for k, content in sectors.items():
         put(disk, SECTOR * k, content)
@@ -229,7 +229,8 @@ def with_sectors(count, sectors):
 
 
 def laid_out(count, catalogue, *libraries):
-    """A disk of generation 0 that has its catalogue here, and these libraries: the entry's sector, the name, the file, its extents."""
+    """Returns a disk of generation 0 with its catalogue at this place and these libraries: the sector of the entry,
+    the name, the file, and the file's extents."""
     sectors = {0: spelt_root(Root(2, 0, count, len(libraries), [], [catalogue])),
                catalogue: spelt_catalogue([at for at, _, _, _ in libraries])}
     for at, name, file, extents in libraries:
@@ -239,7 +240,8 @@ def laid_out(count, catalogue, *libraries):
 
 
 def apart_file(file, *extents, turned=False):
-    """A disk of 12 sectors with the library none.so in these extents, in their order; the entry names them in it, or the other way round."""
+    """Returns a disk of 12 sectors with the library none.so in these extents. The entry names the extents in this
+    order, or in the opposite order."""
     sectors = {0: spelt_root(Root(2, 0, 12, 1, [], [8])), 8: spelt_catalogue([10]),
                10: entry(b'none.so', len(file), *(reversed(extents) if turned else extents))}
     places = [start + k for start, count in extents for k in range(count)]
@@ -252,16 +254,18 @@ def of_one_sector(*places):
 
 
 def room():
-    """Which sectors a file takes: the longest free runs first, of runs of one length the lower, the last from its front."""
+    """The sectors that a file takes: the longest free runs first, of equally long runs the lower one first, and the
+    front of the last run."""
     exclamation, other = 'soname-good-1.so', 'real-large.so'
     assert len((DATA / other).read_bytes()) == 33 * SECTOR - 136
     a, q = (DATA / A).read_bytes(), (DATA / NAMED_Q).read_bytes()
     scattered = padded(a, 32 * SECTOR)
     odd = range(3, 65, 2)
-    # Free are 35 runs of one sector: 2, 4, .. 70. In the other disk they are 2, 4, .. 62, 64 with 65, 67, 69 and 71.
+    # 35 runs of one sector are free: 2, 4, .. 70. In the other disk, these are free: 2, 4, .. 62, 64 with 65, 67, 69
+    # and 71.
     apart = laid_out(73, 72, (67, b'a', scattered, of_one_sector(*odd, 65)), (71, b'q', q, [(69, 1)]))
     nearer = laid_out(74, 73, (68, b'a', scattered, of_one_sector(*odd, 66)), (72, b'q', q, [(70, 1)]))
-    # Free are 2 with 3, 6 with 7, and 9 with what follows.
+    # These are free: 2 with 3, 6 with 7, and 9 with all later sectors.
     pairs = laid_out(11, 8, (5, b'a', a, [(4, 1)]))
     triple = laid_out(12, 8, (5, b'a', a, [(4, 1)]))
     none = (DATA / 'real-none.so').read_bytes()
@@ -467,7 +471,7 @@ def scripts():
 
 
 def tells_b(word, *files):
-    """Sees that b's word of f, the last of its line, is this one in these texts."""
+    """Checks that b's word of f, the last of its line, is this word in these texts."""
     line = '0' * 16 + word.to_bytes(8, 'little').hex()
     for file in files:
         *_, of_b = (DATA / file).read_text().split('object ')
@@ -565,7 +569,7 @@ def command_lines():
 
 
 def wrong():
-    """Cases that are wrong on purpose, and stand because they differ."""
+    """Cases that are wrong on purpose. They have to differ from the right ones."""
     lines = ['on formatted.disk run format disk 8 =/> 0 refused S4 AlreadyFormatted then same',
              'on formatted.disk run format disk 8 =/> 1 refused S6 BadGeometry then same',
              'on formatted.disk run format disk 8 =/> 1 refused S4 AlreadyFormatted then none',
@@ -598,7 +602,7 @@ def wrong():
 
 
 def tells_wrong_readings():
-    """Sees that each wrong reading ends otherwise in some case."""
+    """Checks that each wrong reading ends differently in some case."""
     not_told, count = tell(CASES)
     assert not not_told, not_told
     print(f'{count} wrong readings are told apart')

@@ -3,9 +3,9 @@
 
     python3 crates/cases/make/linked_binds.py
 
-It needs gcc, GNU ld, gold, lld and readelf. Load order, bases and the words of all relocations are worked out here from
-what `readelf -lrdsW` prints, and from the addends that it prints; nothing is read from the files themselves. All is
-compared with `binder.py`.
+It needs gcc, GNU ld, gold, lld and readelf. The script determines load order, bases and the words of all relocations
+from the output of `readelf -lrdsW`, including the addends, and reads nothing from the files themselves. It compares all
+of this with `binder.py`.
 """
 
 import re
@@ -23,7 +23,7 @@ PLAIN = '-nostdlib -s -Wl,--build-id=none,--hash-style=sysv'
 SMALL = PLAIN + ',-z,noseparate-code,-z,norelro'
 WHOLE = 1 << 64
 
-# The commands, in their order: the libraries are linked with those that they need.
+# The commands in their order. Libraries are linked with the libraries that they need.
 COMMANDS = [
     ('base', f'gcc {COMPILED} -shared {SMALL},-soname,base.so -o base.so base.c'),
     ('middle', f'gcc {COMPILED} -shared -fuse-ld=gold {PLAIN},-soname,middle.so -o middle.so middle.c base.so'),
@@ -39,7 +39,7 @@ def printed(path):
 
 
 class Printed:
-    """An object as readelf prints it."""
+    """An object, as readelf prints it."""
 
     def __init__(self, name, path):
         text = printed(path)
@@ -56,7 +56,7 @@ class Printed:
         assert loads and len(self.relocations) == sum(map(int, re.findall(r'^Relocation .* contains (\d+) entr', text, re.M)))
 
     def exports(self, name):
-        """The address or the absolute value that a name has outside."""
+        """Returns the address or the absolute value of a name that others can use."""
         for value, kind, binding, visibility, section, own in self.symbols:
             if (own == name and binding in ('GLOBAL', 'WEAK') and section != 'UND' and kind in ('NOTYPE', 'OBJECT', 'FUNC')
                     and visibility in ('DEFAULT', 'PROTECTED')):
@@ -72,7 +72,7 @@ def signed(text):
 
 
 def value_of(order, o, name):
-    """The value of a symbol of an object, or None where it is undefined."""
+    """Returns the value of a symbol of an object, or None if the symbol is undefined."""
     value, _, binding, visibility, section, _ = o.symbol(name)
     if binding == 'LOCAL' or (section != 'UND' and visibility != 'DEFAULT'):
         return int(value, 16) + (0 if section == 'ABS' else o.base)
@@ -85,7 +85,7 @@ def value_of(order, o, name):
 
 
 def word_of(order, o, kind, rest):
-    """What a relocation writes, from its line: `VALUE NAME + ADDEND`, or `ADDEND`."""
+    """Returns the word that a relocation writes. The relocation's line has `VALUE NAME + ADDEND` or `ADDEND`."""
     if kind == 'RELATIVE':
         return (o.base + signed(rest)) % WHOLE
     name, sign, addend = re.fullmatch(r'[0-9a-f]{16} (\S+) ([+-]) ([0-9a-f]+)', rest).groups()
@@ -97,7 +97,7 @@ def word_of(order, o, kind, rest):
 
 
 def load_order(program, libraries, preloads, base):
-    """The objects level by level, at their bases."""
+    """Returns the objects, level by level, at their bases."""
     order = [program] + [libraries[n] for n in preloads]
     for o in order:
         order += [libraries[n] for n in dict.fromkeys(o.needed) if libraries[n] not in order]
@@ -109,7 +109,7 @@ def load_order(program, libraries, preloads, base):
 
 
 def bound(names, preloads=(), base=BASE):
-    """The program with the libraries of these names: the cases of its order and of each relocation."""
+    """Binds the program with the libraries of these names. Returns the cases of its order and of each relocation."""
     files = {f'{n}.so': Printed(f'{n}.so', DATA / f'linked-{n}.so') for n in names}
     program = Printed('/program', DATA / 'linked-program.so')
     bind = Bind(Case('linked-program.so'), [Case(f'linked-{n}.so') for n in names], preloads, base)
@@ -126,7 +126,8 @@ def bound(names, preloads=(), base=BASE):
 
 
 def undefined(names):
-    """What is undefined where the program lacks what a library calls: a library alone, read as a program."""
+    """Returns the undefined names of a library alone, read as a program: the program lacks names that the library
+    calls."""
     lines = []
     for name in names:
         o = Printed('/program', DATA / f'linked-{name}.so')

@@ -3,9 +3,9 @@
 
     python3 crates/cases/make/linked_symbolic.py
 
-It needs gcc, GNU ld, gold, lld and readelf, and `linked-base.so`, which `linked_binds.py` makes. Which objects are symbolic, and
-the words of all relocations, are worked out from what `readelf -lrdsW` prints, as there; nothing is read from the files
-themselves. All is compared with `binder.py`.
+It needs gcc, GNU ld, gold, lld and readelf, and `linked-base.so`, which `linked_binds.py` makes. Like that script, this
+one determines the symbolic objects and the words of all relocations from the output of `readelf -lrdsW`, and reads
+nothing from the files themselves. It compares all of this with `binder.py`.
 """
 
 import subprocess
@@ -22,8 +22,8 @@ FIXED = '--defsym=fixed_datum=0x4321'
 LEFT = '--dynamic-list=kept.map'
 NONE, TAG, FLAG, BOTH = '', 'SYMBOLIC', 'FLAGS', 'SYMBOLIC and FLAGS'
 
-# Libraries of own.c: the linker, its options, and by which tags it makes the library symbolic. The words of what is left to
-# the loader by a list of names (kept.map) are those of symbols; the others of a symbolic library are bound by the linker.
+# Libraries of own.c: the linker, its options, and the tags by which it makes the library symbolic. A list of names
+# (kept.map) leaves some words of a symbolic library to the loader: those name symbols. The linker binds the others.
 LIBRARIES = {
     'plain': ('bfd', '-z,now', NONE), 'bfd': ('bfd', '-Bsymbolic', BOTH), 'bfd-now': ('bfd', '-Bsymbolic,-z,now', BOTH),
     'bfd-tag': ('bfd', '-Bsymbolic,--disable-new-dtags', TAG), 'bfd-list': ('bfd', f'-Bsymbolic,{LEFT}', NONE),
@@ -33,7 +33,8 @@ LIBRARIES = {
     'lld': ('lld', '-Bsymbolic', FLAG), 'lld-list': ('lld', f'-Bsymbolic,{LEFT}', FLAG),
     'lld-now': ('lld', f'-Bsymbolic,{LEFT},-z,now', FLAG), 'lld-functions': ('lld', '-Bsymbolic-functions', NONE),
 }
-# Programs of program.c: the linker, how, and the libraries that it needs; base.so is the first and the last is that of `work`.
+# Programs of program.c: the linker, the way of linking, and the libraries that the program needs: first base.so, and
+# last the library of `work`.
 PROGRAMS = {
     'program': ('bfd', '-pie', '', NONE), 'program-gold': ('gold', '-pie', ',-Bsymbolic', BOTH),
     'program-lld': ('lld', '-pie', f',-Bsymbolic,{LEFT}', FLAG), 'program-bfd': ('bfd', '-pie', ',-Bsymbolic', NONE),
@@ -58,7 +59,7 @@ def program_command(name):
 
 
 def tags(text):
-    """By which tags readelf says that an object is symbolic."""
+    """Returns the tags by which an object is symbolic, as readelf prints them."""
     own = '(SYMBOLIC)' in text
     flag = any('(FLAGS)' in line and 'SYMBOLIC' in line.split() for line in text.splitlines())
     return BOTH if own and flag else TAG if own else FLAG if flag else NONE
@@ -93,8 +94,8 @@ class Changed:
 
 
 def changed_flags(name, entry):
-    """A library whose FLAGS is 0x8, which the linker made so that all words of its names are left to the loader, with another
-    entry in its place."""
+    """Returns a library whose FLAGS is 0x8, with another entry in place of FLAGS. The linker has left all words of the
+    library's names to the loader."""
     data, text = (DATA / file_of(name)).read_bytes(), printed(DATA / file_of(name))
     assert any('(FLAGS)' in line and line.split()[2:] == ['BIND_NOW'] for line in text.splitlines())
     old = u64(30) + u64(8)
@@ -110,7 +111,8 @@ def printed_case(name, case):
 
 
 def bound(program, libraries, preloads=(), base=BASE, alone=None):
-    """A program with these libraries: the cases of its order and of each relocation, or of those of one object alone."""
+    """Binds a program with these libraries. Returns the cases of its order and of each relocation, or only those of
+    one object."""
     cases = {(n if isinstance(n, str) else n.name): (Case(file_of(n)) if isinstance(n, str) else n.case()) for n in libraries}
     objects = {f'{n}.so': printed_case(f'{n}.so', case) for n, case in cases.items()}
     bind = Bind(Case(file_of(program)), list(cases.values()), [f'{n}.so' for n in preloads], base)
@@ -131,7 +133,7 @@ def bound(program, libraries, preloads=(), base=BASE, alone=None):
 
 
 def found_in(program, libraries, preloads, asker, name):
-    """In which object a name is found for an object, for what a comment says of it."""
+    """Returns the object in which a name is found for an object, as text for a comment."""
     objects = {f'{n}.so': Printed(f'{n}.so', DATA / file_of(n)) for n in libraries}
     order = load_order(Printed('/program', DATA / file_of(program)), objects, [f'{n}.so' for n in preloads], BASE)
     asks = next(o for o in order if o.name == asker)
@@ -143,7 +145,7 @@ LINKERS = {'bfd': 'GNU ld', 'gold': 'gold', 'lld': 'lld'}
 
 
 def said(linker, how, by):
-    """How an object was linked, and by which tags it is symbolic."""
+    """Returns a text with the way in which an object was linked, and the tags by which it is symbolic."""
     return f'{LINKERS[linker]} with {how}, ' + (f'symbolic by {by}.' if by else 'which isn\'t symbolic.')
 
 

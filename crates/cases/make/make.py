@@ -3,8 +3,8 @@
 
     python3 crates/cases/make/make.py
 
-Expected answers come from `rules.py`, a second reading of the rules; where a table below has an answer of its own,
-worked out by hand, the two have to agree. Nothing here comes from the program.
+Expected answers come from `rules.py`, a second reading of the rules; if a table below has an answer that was
+determined by hand, the two have to agree. No answer comes from the program.
 """
 
 import struct
@@ -62,7 +62,7 @@ ALL = b'\xff' * 8
 
 
 def write_list(name, parts):
-    """Writes a list: parts of a comment and its lines."""
+    """Writes a list. Each part is a comment and its lines."""
     blocks = ['\n'.join([f'# {line}' for line in comment.splitlines()] + lines) for comment, lines in parts]
     (DATA / name).write_text('\n\n'.join(blocks) + '\n')
 
@@ -74,7 +74,7 @@ def write_text(name, data, base=BASE):
 
 
 def differences(old, new):
-    """What has to be changed of one text to have another one of its length."""
+    """Returns the changes that make one text another text of the same length."""
     assert len(old) == len(new)
     changes, k = [], 0
     while k < len(new):
@@ -90,7 +90,7 @@ def differences(old, new):
 
 
 def as_answer(text, near='minimal.image'):
-    """A text as the answer of a case: its one line, or a file's text with changes."""
+    """Returns a text as the answer of a case: its only line, or the text of a file with changes."""
     if text.count('\n') == 1:
         return text[:-1]
     old = (DATA / near).read_text()
@@ -98,7 +98,7 @@ def as_answer(text, near='minimal.image'):
 
 
 def image(file, base=BASE, near='minimal.image', wanted=None):
-    """A case of `image`; `wanted` is the refusal that was worked out by hand."""
+    """Returns a case of `image`. `wanted` is the refusal that was determined by hand."""
     text = rules.image_text(file.bytes(), base)
     if wanted is not None:
         assert text == f'refused {wanted}\n', (str(file), hex(base), wanted, text)
@@ -106,7 +106,7 @@ def image(file, base=BASE, near='minimal.image', wanted=None):
 
 
 def byte(file, base, address, wanted):
-    """A case of `byte`; `wanted` is the byte that was worked out by hand, or None."""
+    """Returns a case of `byte`. `wanted` is the byte that was determined by hand, or None."""
     assert rules.memory(file.bytes(), base).get(address) == wanted, (str(file), hex(address))
     return f"byte {file} 0x{base:x} 0x{address:x} => {'none' if wanted is None else f'{wanted:02x}'}"
 
@@ -139,7 +139,7 @@ CHANGES = [
     ([(0xe0, u8(0x89))], 'E32 RelocationPlace'), ([(0xe0, ALL)], 'E32 RelocationPlace'),
 ]
 
-# Of two changes the test that comes first answers.
+# If two changes are made, the earlier test refuses the file.
 FIRST_OF_TWO = [
     ([(0x00, u8(0x00)), (0x04, u8(0x01))], 'E2 BadMagic'), ([(0x04, u8(0x01)), (0x05, u8(0x02))], 'E3 BadClass'),
     ([(0x05, u8(0x02)), (0x06, u8(0x00))], 'E4 BadData'), ([(0x14, u8(0x02)), (0x07, u8(0x09))], 'E5 BadVersion'),
@@ -158,7 +158,7 @@ FIRST_OF_TWO = [
     ([(0xe0, u8(0x89)), (0xb0, u8(0x00))], 'E32 RelocationPlace'),
 ]
 
-# Changes that no test refuses, and why.
+# Changes that no test refuses, with the reason.
 ACCEPTED = [
     ('the OS ABI of GNU', [(0x07, u8(0x03))]),
     ('an alignment of 0', [(0x70, u8(0x00, 0x00))]),
@@ -181,7 +181,7 @@ def changes():
 
 
 def tags():
-    """Cases of a program with one entry more, of a tag that isn't read."""
+    """Cases of a program with one more entry, of a tag that isn't read."""
     file, at = build(Object(relocations=[(R_RELATIVE, 0, 0, 0x2000)], entries=[(0x15, 7)]))
     (DATA / 'entry.so').write_bytes(file)
     write_text('entry.image', file)
@@ -227,8 +227,8 @@ def bases():
     ])
 
 
-# Five program headers behind the sample: its own two; one of six bytes at 0x2001, four of them from the file; one
-# without bytes; one of a byte at 0x2007 without permissions, but with other flags.
+# Five program headers after the sample: the sample's own two; one of six bytes at 0x2001, four of which come from
+# the file; one without bytes; and one of a byte at 0x2007 without permissions, but with other flags.
 SEGMENTS = [
     program_header(1, 6, 0, 0, 0x190, 0x190, 0x1000), program_header(2, 6, 0xf8, 0xf8, 0x90, 0x90, 8),
     program_header(1, 5, 0, 0x2001, 4, 6, 0), program_header(1, 7, 0, 0x2007, 0, 0, 0),
@@ -259,7 +259,7 @@ def segments():
 
 
 def jmprel_after_rela():
-    """The overlapping program with the first of its relocations in DT_JMPREL, and the second in DT_RELA."""
+    """The overlapping program with its first relocation in DT_JMPREL, and its second in DT_RELA."""
     o = Object(relocations=[(R_RELATIVE, 0, 0, 0x2000), (R_RELATIVE, 4, 0, 0x3000)], data=16,
                entries=[(23, 0), (2, 24), (20, 7)])
     file, at = build(o)
@@ -282,7 +282,7 @@ def relocations():
     write_text('overlapping.image', overlapping)
     write_text('tail.image', minimal((0x68, u8(0xa0)), (0xe0, u8(0x98))).bytes())
     write_text('page.image', minimal((0x68, u64(0x1000))).bytes(), 0x7fffffffe000)
-    # These lines were worked out by hand.
+    # These lines were determined by hand.
     assert (DATA / 'minimal.image').read_text().endswith('\n00000000000000000020010000000000\nend\n')
     assert (DATA / 'tail.image').read_text().endswith('\n00000000000000000020010000000000\nend\n')
     assert 'segment 0x0000000000010000 416 rw-\n' in (DATA / 'tail.image').read_text()

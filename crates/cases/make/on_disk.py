@@ -1,15 +1,16 @@
-"""How a case of a command line over a disk is made: its text, from the status, the answer and the disk that `program.py` gives."""
+"""Makes a case of a command line over a disk: its text, from the status, the answer and the disk that `program.py`
+returns."""
 
 from make import DATA
 from program import Program
 from samples import Object, build
 from scripts import SECTOR
 
-CASES = []  # the disk, the words, what is given, and the status, the answer, the error and the disk behind it
+CASES = []  # the disk, the words, the input, and the status, the answer, the error and the disk afterwards
 FILES = {}  # the first name of the objects of the folder that have these bytes
 FILES_OF = {}  # the bytes of each object, by its name
 
-# Libraries a and q of 344 bytes, which take a sector, and b of 520 bytes.
+# Libraries a and q of 344 bytes, which take one sector, and b of 520 bytes.
 A, NAMED_Q, B_520 = 'soname-good-0.so', 'no-symbols.so', 'three-words.so'
 
 
@@ -19,7 +20,7 @@ def put(content, at, new):
 
 
 def first_bytes(name):
-    """The bytes of a FILE without changes."""
+    """Returns the bytes of a FILE without changes."""
     what, _, rest = name.partition('=')
     if what == 'made':
         return bytes_of(' '.join((DATA / rest).read_text().split()))
@@ -27,13 +28,13 @@ def first_bytes(name):
 
 
 def bytes_of(text):
-    """The bytes of a FILE with changes, as docs/CASES.md has them, or None for `none`."""
+    """Returns the bytes of a FILE with changes, in the form of docs/CASES.md, or None for `none`."""
     name, *changes = text.split(' ')
     return None if text == 'none' else with_changes(first_bytes(name), changes)
 
 
 def with_changes(old, changes):
-    """Bytes after changes."""
+    """Returns bytes after changes."""
     content = bytearray(old)
     for change in changes:
         what, value = change.split('=')
@@ -47,7 +48,8 @@ def with_changes(old, changes):
 
 
 def spans(old, new):
-    """Where two disks of one length differ: (offset, bytes), with a few bytes that are the same in between."""
+    """Returns the differences of two disks of one length, as pairs (offset, bytes). A few equal bytes may lie within
+    one difference."""
     found = []
     for k in range(len(new)):
         if old[k] != new[k]:
@@ -59,7 +61,8 @@ def spans(old, new):
 
 
 def changes(old, new):
-    """The changes that make one disk of another: whole files of the folder where they begin in a sector, and bytes."""
+    """Returns the changes that make one disk another one: whole files of the folder, if they begin where a sector
+    begins, and bytes."""
     made, said = bytearray(old), []
     for at in range(2 * SECTOR, len(new), SECTOR):
         differs = new[at:at + SECTOR] != old[at:at + SECTOR]
@@ -72,7 +75,7 @@ def changes(old, new):
 
 
 def spelt(disk):
-    """A disk, spelt."""
+    """Returns the text that encodes a disk."""
     return f'bytes= pad={len(disk)}' + changes(bytes(len(disk)), disk)
 
 
@@ -85,7 +88,7 @@ def after_text(before, old, new):
 
 
 def answer_text(answer, error, file):
-    """The ANSWER of a case. A text of several lines is a file."""
+    """Returns the ANSWER of a case. A text of several lines is a file."""
     if error:
         return f'error {error[:-1]}'
     if file:
@@ -99,8 +102,8 @@ def answer_text(answer, error, file):
 
 
 def on(before, words, wanted=None, after=None, given=None, file=None, has=''):
-    """A case. `wanted` is its status and answer and `after` the disk after it, where those were worked out by hand, or `has` some
-    bytes of that disk; `file` has an answer of several lines."""
+    """Returns a case. `wanted` is its status and answer, and `after` is the disk after it, if these were determined by
+    hand; `has` is some bytes of that disk. `file` has an answer of several lines."""
     disk, text = bytes_of(before), b'' if given is None else bytes_of(given)
     status, answer, error, left = Program().run(words.split(' '), disk, text)
     ending = f'{status} {answer_text(answer, error, file)}'
@@ -125,7 +128,7 @@ def keep(name, content):
 
 
 def changed(disk, *commands):
-    """A disk after commands that are done."""
+    """Returns a disk after commands that succeed."""
     for command in commands:
         status, _, _, disk = Program().run(command.split(' '), disk)
         assert status == 0, command
@@ -133,21 +136,21 @@ def changed(disk, *commands):
 
 
 def find_files():
-    """Notes the objects of the folder, which the text of a case names where they begin in a sector."""
+    """Finds the objects of the folder. The text of a case names such a file if the file begins where a sector begins."""
     for path in sorted(DATA.glob('*.so'), key=lambda path: (path.stat().st_size, path.name not in (A, NAMED_Q), path.name)):
         FILES.setdefault(path.read_bytes(), path.name)
         FILES_OF[path.name] = path.read_bytes()
 
 
 def each_command(before, answer):
-    """Each command that reads a registry, on a disk where it can't."""
+    """Each command that reads a registry, on a disk that it can't read."""
     return [on(before, command, answer, 'same', given) for command, given in (
         (f'install disk {A}', None), (f'replace disk {A}', None), ('remove disk a', None), ('preload disk', None), ('preload disk a a', None),
         ('list disk', None), ('bind disk minimal.so 0x10000', None), ('script disk', 'bytes=6c6973740a'))]
 
 
 def each_opening(before, answer):
-    """The same, and `upgrade`."""
+    """The same commands, and `upgrade`."""
     return each_command(before, answer) + [on(before, 'upgrade disk', answer, 'same')]
 
 
@@ -156,7 +159,7 @@ def listed(before, file):
 
 
 def other_files(a, b):
-    """What is changed of a disk whose libraries a and b are the objects `first.so` and `strong.so`, a sector each: at b's place a, at a's b, both,
-    at a's and at b's zeros."""
+    """The changes of a disk whose libraries a and b are the objects `first.so` and `strong.so`, with a sector each: a
+    in b's place, b in a's place, both, and zeros in a's and in b's place."""
     zeros = bytes(376).hex()
     return [f'{b}=@first.so', f'{a}=@strong.so', f'{a}=@strong.so {b}=@first.so', f'{a}={zeros}', f'{b}={zeros}']

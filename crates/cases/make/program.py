@@ -1,4 +1,4 @@
-"""A second reading of what the program does with words, over a disk or none."""
+"""A second reading of the program: the effects of its words, with a disk or without one."""
 
 import re
 
@@ -19,7 +19,8 @@ def is_command(words):
 
 
 class Program:
-    """What the program does with words, over the disk `disk` or none: a status, an output, an error, and the disk after it."""
+    """The effects of the program's words, over the disk `disk` or without a disk: a status, an output, an error, and
+    the disk afterwards."""
 
     def __init__(self, reading=OnDisk):
         self.reading = reading
@@ -53,7 +54,7 @@ class Program:
         return 3, '', f'rlibreg: cannot read {path}\n', disk
 
     def first_missing(self, name, rest, path, disk):
-        """The first file that isn't there: the one that is read, then the disk."""
+        """Returns the first missing file: first the file that is read, then the disk."""
         if name in READS_FILE and self.content(rest[0], disk) is None:
             return rest[0]
         return path if path != 'disk' or (disk is None and name != 'format') else None

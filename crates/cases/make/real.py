@@ -3,8 +3,9 @@
 
     python3 crates/cases/make/real.py
 
-It needs gcc, g++, GNU ld, gold, lld, clang, objcopy and readelf. What a reader sees of an object is worked out from
-`readelf --dyn-syms -dW` alone; refusals stand in the table below, by hand. Both are compared with `rules.py`.
+It needs gcc, g++, GNU ld, gold, lld, clang, objcopy and readelf. The script determines the names and symbols of an
+object only from the output of `readelf --dyn-syms -dW`. The table below has the refusals, which were determined by
+hand. The script compares both with `rules.py`.
 """
 
 import re
@@ -32,13 +33,14 @@ ROW = re.compile(r' *(\d+): ([0-9a-f]{16}) +(\S+) (\S+) +(\S+) +(\S+) +(\S+)(?: 
 
 
 def linked(linker, style, output):
-    """The command that makes the library of exports.c with a linker."""
+    """Returns the command by which a linker makes the library of exports.c."""
     small = ',-z,noseparate-code,-z,norelro' if linker == 'bfd' else ''
     return (f'gcc {COMPILED} -nostdlib -shared -s -fuse-ld={linker} -Wl,--build-id=none{small},--hash-style={style},'
             f'-soname,exports.so.1,--defsym=fixed=0x4321 -o {output} exports.c other.so third.so')
 
 
-# Objects that are admitted: what each is, its file, and its command. Those before have their sources in the folder.
+# Objects that are admitted: a description, the file, and the command. Earlier objects have their sources in the
+# folder.
 ADMITTED = [
     ('Two libraries that others need, by GNU ld.', 'real-other.so', f'gcc {COMPILED} {SYSV},-soname,other.so -o real-other.so other.c'),
     ('The same with a GNU hash table in addition.', 'real-third.so',
@@ -63,7 +65,7 @@ ADMITTED = [
      '-o real-program.so program.c other.so third.so'),
 ]
 
-# Objects that are refused: why, the file, the command, and the refusal as a library.
+# Objects that are refused: the reason, the file, the command, and the refusal as a library.
 REFUSED = [
     ('The hash style that is the default of gcc: only a GNU hash table.', 'real-gnu-hash.so',
      f'gcc {COMPILED} {SMALL},-soname,q -o real-gnu-hash.so one.c', 'E19 NoHashTable'),
@@ -117,7 +119,7 @@ REFUSED = [
     ('', 'real-slash.so', f'gcc {COMPILED} {SYSV},-soname,lib/q -o real-slash.so one.c', 'E33 BadSoname'),
 ]
 
-# The sources of a line or two; the others stand in the folder real/.
+# Sources of a line or two. The other sources are in the folder real/.
 LINES = {
     'one.c': ONE, 'other.c': 'int other(int n) { return n; }\n', 'third.c': 'int amount = 1;\n',
     'none.c': 'static int one(void) { return 1; }\nstatic int (*volatile operation)(void) __attribute__((used)) = one;\n',
@@ -140,7 +142,7 @@ LINES = {
 
 
 def prepare(folder):
-    """The sources, and the libraries that commands name."""
+    """Makes the sources, and the libraries that commands name."""
     for name, text in LINES.items():
         (folder / name).write_text(text)
     for source in SOURCES.iterdir():
@@ -161,7 +163,7 @@ def made(folder, name, command):
 
 
 def read_by_readelf(name):
-    """The SONAME, the needed names and the symbols of an object, as readelf prints them."""
+    """Returns the SONAME, the needed names and the symbols of an object, as readelf prints them."""
     text = subprocess.run(['readelf', '--dyn-syms', '-dW', DATA / name], check=True, capture_output=True, text=True).stdout
     soname = re.findall(r'\(SONAME\) +Library soname: \[(.*)\]', text)
     needed = re.findall(r'\(NEEDED\) +Shared library: \[(.*)\]', text)
@@ -178,13 +180,13 @@ def read_by_readelf(name):
 
 
 def found_by_readelf(symbols, name):
-    """The number of the symbol that is exported under a name."""
+    """Returns the number of the symbol that is exported under a name."""
     return next((i for i, s in enumerate(symbols) if s['name'] == name and s['binding'] in (1, 2) and s['section'] != 0
                  and s['type'] in (0, 1, 2) and s['visibility'] in (0, 3)), None)
 
 
 def view_text(name):
-    """What a reader sees of an object."""
+    """Returns the names and symbols of an object that a reader finds."""
     soname, needed, symbols = read_by_readelf(name)
     lines = ['no soname' if soname is None else 'soname ' + rules.printed_name(soname)]
     lines += ['needed ' + rules.printed_name(n) for n in needed]
@@ -196,7 +198,7 @@ def view_text(name):
 
 
 def agrees(name):
-    """Whether the second reading sees the same symbols as readelf."""
+    """Returns whether the second reading finds the same symbols as readelf."""
     elf, (soname, needed, symbols) = rules.Elf((DATA / name).read_bytes()), read_by_readelf(name)
     assert elf.symbol_count() == len(symbols), name
     for i, s in enumerate(symbols):

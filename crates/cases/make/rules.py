@@ -1,7 +1,7 @@
-"""A second reading of the rules that docs/FORMATS.md and docs/COMMANDS.md say, plain and slow, for expected answers.
+"""A second reading of the rules in docs/FORMATS.md and docs/COMMANDS.md, simple and slow, for expected answers.
 
-It shares nothing with the program: `make.py` takes the answers of the cases from here, and compares them with those
-that stand in its own tables.
+It shares no code with the program. `make.py` takes the answers of the cases from this module, and compares them with
+the answers in its own tables.
 """
 
 import struct
@@ -33,7 +33,7 @@ class Elf:
         self.dynamics = [h for h in self.headers if h['type'] == PT_DYNAMIC]
 
     def entries(self):
-        """The dynamic entries before the first DT_NULL, or None without one."""
+        """Returns the dynamic entries before the first DT_NULL, or None if there is no DT_NULL."""
         at, size = self.dynamics[0]['offset'], self.dynamics[0]['filesz']
         found = []
         for i in range(size // 16):
@@ -50,7 +50,7 @@ class Elf:
         return next((v for t, v in self.entries() if t == tag), None)
 
     def offset(self, address, size):
-        """Where the bytes at an address stand in the file, or None where they can't be read."""
+        """Returns the offset in the file of the bytes at an address, or None if these bytes can't be read."""
         if size == 0:
             return 0
         for h in self.loads:
@@ -75,7 +75,7 @@ class Elf:
         return word[:nbucket], word[nbucket:]
 
     def is_symbolic(self):
-        """Whether the object is looked in first for what it asks for itself."""
+        """Returns whether the object's own names are looked up in the object first."""
         return self.value(SYMBOLIC) is not None or bool((self.value(FLAGS) or 0) & DF_SYMBOLIC)
 
     def symbol_count(self):
@@ -215,7 +215,7 @@ def relocation_refusal(elf):
 
 
 def object_refusal(data):
-    """The first refusal of a file as an object, or None."""
+    """Returns the first refusal of a file as an object, or None."""
     refusal = header_refusal(data)
     if refusal:
         return refusal
@@ -224,7 +224,7 @@ def object_refusal(data):
 
 
 def walk(elf, bucket):
-    """The symbols on the walk from a bucket's word, or None where it never reaches 0."""
+    """Returns the symbols on the walk from a bucket's word, or None if the walk never reaches 0."""
     _, chains = elf.hash_words()
     met, at = [], bucket
     while at != 0:
@@ -257,7 +257,7 @@ def admitted_refusal(data):
 
 
 def library_refusal(data):
-    """The first refusal of a file as a library, or None."""
+    """Returns the first refusal of a file as a library, or None."""
     refusal = admitted_refusal(data)
     if refusal:
         return refusal
@@ -273,7 +273,7 @@ def find(data, name):
 
 
 def compared(data, name):
-    """How many names a search along the chain compares."""
+    """Returns the number of names that a search along the chain compares."""
     elf = Elf(data)
     buckets, _ = elf.hash_words()
     met, found = walk(elf, buckets[elf_hash(name) % len(buckets)]), find(data, name)
@@ -313,7 +313,7 @@ def own_address(elf, i, base):
 
 
 def symbol_value(elf, i, base):
-    """The value of a symbol of a program that is bound alone, or None where it is undefined."""
+    """Returns the value of a symbol of a program that is bound alone, or None if the symbol is undefined."""
     if i == 0:
         return 0
     symbol = elf.symbol(i)
@@ -327,7 +327,7 @@ def symbol_value(elf, i, base):
 
 
 def written(elf, kind, symbol, addend, base):
-    """The value that a relocation writes, or None where its type writes nothing."""
+    """Returns the value that a relocation writes, or None if its type writes nothing."""
     if kind == 8:
         return (base + addend) % (1 << 64)
     if kind == 1:
@@ -336,7 +336,7 @@ def written(elf, kind, symbol, addend, base):
 
 
 def memory(data, base):
-    """The byte at each address of the image of a program that is bound alone."""
+    """Returns the byte at each address of the image of a program that is bound alone."""
     elf, held = Elf(data), {}
     for h in elf.loads:
         for k in range(h['memsz']):
@@ -350,7 +350,7 @@ def memory(data, base):
 
 
 def image_text(data, base):
-    """The text of the image of a program that is bound alone, or of its refusal."""
+    """Returns the text of the image of a program that is bound alone, or the text of its refusal."""
     refusal = alone_refusal(data, base)
     if refusal:
         return f'refused {refusal}\n'

@@ -13,7 +13,7 @@ R_NONE, R_64, R_GLOB_DAT, R_JUMP_SLOT, R_RELATIVE = 0, 1, 6, 7, 8
 
 @dataclass
 class Symbol:
-    """A symbol: at a place behind the start of the data, or undefined, or with a value of its own."""
+    """A symbol: at an offset from the start of the data, or undefined, or with a value of its own."""
     name: bytes
     binding: int = GLOBAL
     kind: int = NOTYPE
@@ -27,7 +27,7 @@ class Object:
     """An object whose addresses are its file's offsets, with one writable segment.
 
     The parts follow each other, each padded by zeros to a multiple of 8: the headers, a hash table of one bucket, the
-    symbols, the strings, the relocations, the dynamic section and the data. The relocations are (type, place behind the
+    symbols, the strings, the relocations, the dynamic section and the data. The relocations are (type, offset from the
     start of the data, symbol, addend).
     """
     soname: bytes = None
@@ -51,13 +51,13 @@ def program_header(kind, flags=0, offset=0, address=0, in_file=0, in_memory=0, a
 
 
 def chain_words(count):
-    """A hash table of one bucket, which has all symbols in their order."""
+    """Returns the words of a hash table of one bucket, which has all symbols in their order."""
     chains = [0] + [i + 1 for i in range(1, count)] + ([0] if count else [])
     return [1, count + 1, 1 if count else 0] + chains
 
 
 def strings_of(o):
-    """The string table, and where each of the SONAME, the needed names and the symbols' names stands in it."""
+    """Returns the string table, and the offsets in it of the SONAME, the needed names and the symbols' names."""
     table, places = b'\0', []
     for name in ([] if o.soname is None else [o.soname]) + o.needed + [s.name for s in o.symbols]:
         places.append(len(table))
@@ -66,7 +66,7 @@ def strings_of(o):
 
 
 def build(o):
-    """The bytes of an object, and where its parts begin."""
+    """Returns the bytes of an object, and the offsets at which its parts begin."""
     count = 2 + len(o.headers)
     words = o.hash_words or chain_words(len(o.symbols))
     strings, places = strings_of(o)
@@ -104,5 +104,5 @@ def build(o):
 
 
 def with_address(header, address):
-    """A program header with the same physical address as the virtual one."""
+    """Returns a program header whose physical address equals the virtual one."""
     return header[:24] + struct.pack('<Q', address) + header[32:]

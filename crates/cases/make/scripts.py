@@ -3,8 +3,8 @@
 
     python3 crates/cases/make/scripts.py
 
-Expected outputs come from `Model` below, a second reading of what a registry does that shares nothing with the program,
-with `binder.py` for what it binds; where a table has an output of its own, worked out by hand, the two have to agree.
+Expected outputs come from `Model` below, a second reading of a registry that shares no code with the program, and from
+`binder.py` for its binds; if a table has an output that was determined by hand, the two have to agree.
 """
 
 import re
@@ -31,13 +31,13 @@ def sectors_of(length):
 
 
 def catalogues_for(libraries):
-    """How many catalogues list so many libraries."""
+    """Returns the number of catalogues that `libraries` libraries need."""
     return (libraries + IN_CATALOGUE - 1) // IN_CATALOGUE
 
 
 class Model:
-    """A registry of a number of sectors: its libraries in the order of installation, each a pair of its own for each time that
-    it was put; the names of its preloads; and in each slot a binder, or none."""
+    """A registry on a number of sectors: its libraries in the order of installation, each as a new pair for each time
+    that it was put; the names of its preloads; and for each slot a binder, or none."""
 
     def __init__(self, sectors):
         self.sectors, self.libraries, self.preloads, self.slots = sectors, [], [], [None] * SLOTS
@@ -46,13 +46,13 @@ class Model:
         return [name for name, _ in self.libraries]
 
     def versions(self):
-        """What stands in the registry or in a binder's, each version of a library once."""
+        """Returns the libraries of the registry and of its binders, each version once."""
         held = self.libraries + [version for flight in self.slots if flight for version in flight.libraries]
         return {id(version): version for version in held}.values()
 
     def is_full(self, file, libraries):
-        """Whether a file has no room in a list that then has so many libraries: beside all files with their entries, each
-        catalogue counts twice, since a change writes all of them anew."""
+        """Returns whether a file has no room in a list that then has `libraries` libraries. In addition to all files
+        with their entries, each catalogue counts twice, because a change writes all catalogues again."""
         files = [data for _, data in self.versions()] + [file]
         return sum(sectors_of(len(data)) + 1 for data in files) + 2 * catalogues_for(libraries) > self.sectors - 2
 
@@ -152,7 +152,7 @@ def soname(file):
 
 
 def output(sectors, text):
-    """The number of lines, that of refused ones, and what is written."""
+    """Returns the number of lines, the number of refused lines, and the output."""
     model, answers = Model(sectors), []
     *whole, cut = text.split(b'\n')
     answers = [model.answer(line) for line in whole] + (['refused L2 CutLine\n'] if cut else [])
@@ -192,7 +192,7 @@ def of_folder(name):
 
 
 def image_lines(name):
-    """The lines of the text of an image that another list has as an answer."""
+    """Returns the lines of an image's text that another list has as an answer."""
     return (DATA / name).read_text().splitlines()
 
 
@@ -200,7 +200,7 @@ A, B, C, X, Y, Z = (library(name) for name in (b'a', b'b', b'c', b'x', b'y', b'z
 
 
 def stored(name, sectors, lines, wanted=None, end=b'\n'):
-    """A case of a script that is a file; `wanted` is its output where that was worked out by hand."""
+    """A case of a script in a file. `wanted` is its output, if that was determined by hand."""
     text = b'\n'.join(lines) + end
     count, refused, answers = output(sectors, text)
     if wanted is not None:
@@ -211,14 +211,15 @@ def stored(name, sectors, lines, wanted=None, end=b'\n'):
 
 
 def short(text, wanted, sectors=64):
-    """A case of a script that is spelt; `wanted` is its output, worked out by hand: at most a line."""
+    """A case of a script that is written in the list. `wanted` is its output, which was determined by hand: at most
+    one line."""
     count, refused, answers = output(sectors, text)
     assert answers == wanted + ('\n' if wanted else ''), (text, answers)
     return f'script {sectors} bytes={text.hex()} => {count} {refused} {wanted or "nothing"}'
 
 
 def seen(name, sectors, lines, wanted, end=b'\n'):
-    """A case of a script that is a file; `wanted` are lines of its output in their order, worked out by hand."""
+    """A case of a script in a file. `wanted` has lines of its output in their order, which were determined by hand."""
     case = stored(name, sectors, lines, end=end)
     rest = iter((DATA / f'{name}.output').read_text().splitlines())
     for line in wanted:
@@ -248,7 +249,7 @@ def rows():
 
 
 def long_line():
-    """A line of 33 MiB of zeros, and one behind it."""
+    """A line of 33 MiB of zeros, and a line after it."""
     length = 33 * 1024 * 1024
     count, refused, answers = output(8, bytes(length) + b'\nlist\n')
     assert answers == 'refused L1 BadLine\nend\n', answers
@@ -325,19 +326,21 @@ def catalogue_after_catalogue(names, listed):
 
 def sectors():
     full = [
-        # Six sectors are free: three of bytes, one for the entry, and two for the catalogue, which is written anew by each change.
+        # Six sectors are free: three for the bytes, one for the entry, and two for the catalogue, which each change
+        # writes again.
         stored('script-full', 8, [install(padded(A, 1537)), install(padded(A, 1536)), b'list', replace(A), install(B), b'remove a',
                                   install(A), install(B), b'list'],
                ['refused S7 Full', 'ok', 'library a 1536', 'end', 'refused S7 Full', 'refused S7 Full', 'ok', 'ok', 'ok', 'library a 344',
                 'library b 344', 'end']),
-        # The same with four sectors more.
+        # The same with four more sectors.
         stored('script-fuller', 12, [install(padded(A, 3585)), install(padded(A, 3584)), b'list', replace(A), install(B), b'remove a',
                                      install(A), install(B), install(C), replace(padded(A, 1025)), replace(padded(A, 513)),
                                      replace(padded(A, 512)), b'remove b', b'list'],
                ['refused S7 Full', 'ok', 'library a 3584', 'end', 'refused S7 Full', 'refused S7 Full', 'ok', 'ok', 'ok', 'ok',
                 'refused S7 Full', 'refused S7 Full', 'ok', 'ok', 'library a 512', 'library c 344', 'end'])]
     tight = [
-        # The file that is replaced isn't free: two sectors are, of 8 without its two, the two of the registry and the catalogue twice.
+        # The replaced file isn't free. Of 8 sectors, two are free without the file's two, the registry's two, and twice
+        # the catalogue.
         stored('script-replace-full', 8, [install(A), replace(padded(A, 513)), replace(padded(A, 512)), b'list'],
                ['ok', 'refused S7 Full', 'ok', 'library a 512', 'end'])]
     return [
@@ -380,8 +383,8 @@ def refusals():
     ]
 
 
-# The libraries a and b with a function f each, a's weak, and the program that needs both and writes f's value into its
-# last eight bytes, at 0x1c8.
+# The libraries a and b with a function f each, a's being weak, and the program that needs both and writes f's value
+# into its last eight bytes, at 0x1c8.
 WEAK_F = library(b'a', symbols=[Symbol(b'f', WEAK, FUNC, DEFINED)])
 LATER_F = library(b'a', symbols=[Symbol(b'f', WEAK, FUNC, DEFINED, 4)])
 STRONG_F = library(b'b', symbols=[Symbol(b'f', GLOBAL, FUNC, DEFINED)])
@@ -390,7 +393,7 @@ START = ['object 0x0000000000010000 /program', 'segment 0x0000000000010000 464 r
 
 
 def with_f(address, *order):
-    """Lines of the image of ASKING: f's address in its last line, and the names behind it, a page each."""
+    """The lines of the image of ASKING: f's address is in its last line, and the names follow it, one page each."""
     word = '0' * 16 + address.to_bytes(8, 'little').hex()
     return START + [word] + [f'object 0x{0x11000 + 0x1000 * i:016x} {name}' for i, name in enumerate(order)] + ['end']
 
@@ -433,13 +436,13 @@ def binds():
 
 
 def placed(*names):
-    """The first lines of the objects of an image, in load order, each of one page."""
+    """Returns the first lines of the objects of an image, in load order. Each object has one page."""
     return [f'object 0x{BASE + 0x1000 * i:016x} {name}' for i, name in enumerate(('/program',) + names)] + ['end']
 
 
 def walks():
-    """Registries, of each library its name, the names that it needs and how many sectors its file takes; the preloads; what the program
-    needs; and what its bind is answered, twice."""
+    """Registries: of each library its name, the names that it needs, and the number of sectors of its file; the
+    preloads; the names that the program needs; and the answer to its bind, twice."""
     one = [('a', '', 1)]
     chain = [('a', 'b', 1), ('b', 'c', 1), ('c', 'd', 1), ('d', 'e', 1), ('e', '', 1)]
     levels = [('e', '', 1), ('d', '', 1), ('c', '', 3), ('b', 'de', 1), ('a', 'cd', 1), ('p', 'c', 1)]
@@ -480,7 +483,7 @@ def walk(name, libraries, preloads, needs, wanted):
 
 
 def symbolic_binds():
-    """The library a with a weak f, and b with its own f and a word of it, of which an entry is changed."""
+    """The library a with a weak f, and the library b with its own f, a word of f, and an entry that is changed."""
     symbolic = of_folder('symbolic-b.so')
     entry = len(symbolic) - 16 - 32
     assert symbolic[entry:entry + 16] == bytes([16]) + bytes(15)
@@ -572,20 +575,20 @@ def bind_lines():
     ]
 
 
-# The library a with another f, which has a value of its own, and the program that needs a alone and writes f's value into its
-# last eight bytes, at 0x1b8.
+# The library a with another f, which has an absolute value, and the program that needs only a and writes f's value into
+# its last eight bytes, at 0x1b8.
 ABSOLUTE_F = library(b'a', symbols=[Symbol(b'f', WEAK, FUNC, ABSOLUTE, 0x1234)])
 ASKING_A = library(None, needed=[b'a'], symbols=[Symbol(b'f')], relocations=[(R_64, 0, 1, 0)])
 
 
 def image_of_a(f):
-    """The image of ASKING_A over a with this value of f, but for most lines of bytes."""
+    """Returns the image of ASKING_A with a and with this value of f, without most lines of bytes."""
     return ['object 0x0000000000010000 /program', 'segment 0x0000000000010000 448 rw-', '0' * 16 + f.to_bytes(8, 'little').hex(),
             'object 0x0000000000011000 a', 'segment 0x0000000000011000 376 rw-', 'end']
 
 
 def binders():
-    """A disk of 8 sectors has room for two versions of a, whose catalogue counts twice."""
+    """A disk of 8 sectors has room for two versions of a. Its catalogue counts twice."""
     assert len(ASKING_A) == 448 and len(WEAK_F) == len(ABSOLUTE_F) == 376
     other, own, last = replace(ABSOLUTE_F), image_of_a(0x11170), image_of_a(0x1234)
     start = [install(WEAK_F), begin(ASKING_A), other]
@@ -684,7 +687,8 @@ def binder_lines():
 
 
 def sessions():
-    """The worked example: a library with its program, a preload that takes its place, and what is left without it."""
+    """The example in full: a library with its program, a preload that replaces it, and the state without the
+    library."""
     return [('A whole script: libraries, a program, a preload, a new version of a library, lines that are refused, and a last line that '
              'is\n'
              'cut.', [
@@ -700,7 +704,7 @@ def sessions():
 
 
 def wrong():
-    """Cases that are wrong on purpose, and stand because they differ."""
+    """Cases that are wrong on purpose. They have to differ from the right ones."""
     line = 'script 64 script-commands.script =/>'
     whole = (DATA / 'script-commands.output').stat().st_size
     return [('These cases are wrong on purpose. Another number of lines or of refusals, an output that lacks a byte, the output of '

@@ -1,4 +1,4 @@
-"""A second reading of the sectors of a disk, both versions: how roots, entries and catalogues are spelt, and read."""
+"""A second reading of the sectors of a disk of either version: the encoding of roots, entries and catalogues."""
 
 import struct
 from collections import namedtuple
@@ -8,7 +8,8 @@ from scripts import IN_CATALOGUE, MOST_LIBRARIES, MOST_PRELOADS, SECTOR, are_dis
 FEWEST, MOST, MOST_EXTENTS = 8, 4194304, 32
 MAGIC = {1: b'RLIBREG1', 2: b'RLIBREG2'}
 MOST_OLD = 100
-# `count` libraries, and as `listed` the sectors of their entries in version 1, those of the catalogues in version 2.
+# `count` libraries. `listed` has the sectors of their entries in version 1, and those of the catalogues in version
+# 2.
 Root = namedtuple('Root', 'version generation sectors count preloads listed')
 Entry = namedtuple('Entry', 'name length extents')
 
@@ -35,7 +36,7 @@ def spelt_catalogue(entries):
 
 
 def read_root(sector):
-    """The root that a sector spells, or None."""
+    """Returns the root that a sector encodes, or None."""
     version = next(number for number, magic in MAGIC.items() if sector[:8] == magic)
     generation, sectors, libraries, preloads = struct.unpack_from('<QIHH', sector, 8)
     most = MOST_OLD if version == 1 else MOST_LIBRARIES
@@ -50,7 +51,7 @@ def read_root(sector):
 
 
 def read_catalogue(sector):
-    """The entry sectors of the catalogue that a sector spells, or None."""
+    """Returns the entry sectors of the catalogue that a sector encodes, or None."""
     count, = struct.unpack_from('<H', sector, 4)
     if not 1 <= count <= IN_CATALOGUE:
         return None
@@ -60,7 +61,7 @@ def read_catalogue(sector):
 
 
 def read_entry(sector):
-    """The entry that a sector spells, or None."""
+    """Returns the entry that a sector encodes, or None."""
     length, name_length, count = struct.unpack_from('<IHH', sector, 4)
     if not 64 <= length <= 1 << 24 or not 1 <= name_length <= 240 or not 1 <= count <= MOST_EXTENTS:
         return None

@@ -1,11 +1,11 @@
 #!/usr/bin/env python3
-"""Writes the list of objects that are looked in first for what they ask for themselves, and its files.
+"""Writes the list of symbolic objects, in which their own names are looked up first, and its files.
 
     python3 crates/cases/make/symbolic.py
 
-It needs files that `binds.py` writes. Every answer stands here as it was worked out by hand from the rules, and agrees with
-`binder.py`, the second reading. `wrong_symbolic.py` has readings that break a rule of symbolic objects each: for every one of
-them some case has to give another answer.
+It needs files that `binds.py` writes. This file has each answer, which was determined by hand from the rules and agrees
+with `binder.py`, the second reading. `wrong_symbolic.py` has readings that break one rule of symbolic objects each. For
+each of them, some case has to give another answer.
 """
 
 from itertools import product
@@ -24,7 +24,8 @@ WHOLE = 1 << 64
 IS_SYMBOLIC = [(SYMBOLIC, 0)]
 B_WORD, B_OWN, A_F = 0x121c8, 0x121d0, 0x11170
 
-# An extra entry of b, and whether b is symbolic by it: the tag alone counts, of the flags the bit 2 alone.
+# An extra entry of b, and whether it makes b symbolic: only the tag counts, and of the flags only the bit
+# 2.
 ENTRIES = [
     ((SYMBOLIC, 0), True), ((FLAGS, 0x2), True), ((FLAGS, 0xa), True), ((FLAGS, 0x0), False), ((FLAGS, 0x8), False),
     ((SYMBOLIC, 1), True), ((SYMBOLIC, 2), True), ((SYMBOLIC, WHOLE - 1), True), ((FLAGS, 0x3), True), ((FLAGS, 0x6), True),
@@ -34,7 +35,7 @@ ENTRIES = [
 ]
 OTHER_TAGS = [(FLAGS_1, 2), (FLAGS_1, 0x10), (DEBUG, 2), (TEXTREL, 2), (BIND_NOW, 2), (GNU_HASH, 2), (1 << 32 | SYMBOLIC, 0),
               (1 << 32 | FLAGS, 2), (1 << 63 | SYMBOLIC, 0), (15, 2), (31, 2), (0x1610, 2), (0x10000000, 2)]
-# Two extra entries, in their order. What stands behind the first NULL isn't read, and NULL's own value isn't either.
+# Two extra entries, in their order. Entries after the first NULL aren't read, and neither is NULL's own value.
 PAIRS = [
     ([(SYMBOLIC, 0), (FLAGS, 0)], True), ([(FLAGS, 0), (SYMBOLIC, 0)], True), ([(SYMBOLIC, 0), (FLAGS, 2)], True),
     ([(FLAGS, 8), (SYMBOLIC, 0)], True), ([(FLAGS, 0xa), (DEBUG, 0)], True), ([(DEBUG, 0), (FLAGS, 2)], True),
@@ -47,7 +48,7 @@ PAIRS = [
 
 
 def own_f(entries, soname=b'b', **fields):
-    """A library with a function f behind its data, and a word of it."""
+    """A library with a function f after its data, and a word of f."""
     symbol = dict(dict(name=b'f', binding=GLOBAL, kind=FUNC, section=DEFINED, at=8), **fields)
     return Object(soname, symbols=[Symbol(**symbol)], relocations=[(R_GLOB_DAT, 0, 1, 0)], data=16, entries=list(entries))
 
@@ -57,7 +58,7 @@ def of_one_entry(*entry, **fields):
 
 
 def named(name, entries, **fields):
-    """The same with a letter as its name: a library of its own, with an entry that says whether it is symbolic."""
+    """The same with a letter as its name: a separate library, with an entry that makes it symbolic or not."""
     return near(Case('symbolic-b.so'), own_f(entries, name.encode(), **fields))
 
 
@@ -73,13 +74,13 @@ def prepare():
 
 
 def two_words(b, own):
-    """P with a and b: b's word has its own f, or a's; P's is a's."""
+    """P with a and b: b's word has b's own f or a's f, and P's word has a's f."""
     bind = Bind(p_with(), [a_with(binding=WEAK), b])
     return [word(bind, B_WORD, B_OWN if own else A_F), word(bind, P_WORD, A_F)]
 
 
 def rotated(case, o):
-    """The same file with its last entry as the first."""
+    """Returns the same file with its last entry moved to the front."""
     at, data = places(o), bytearray(case.bytes())
     assert data == build(o)[0]
     first, last = at['dynamic'], at['data'] - 32
@@ -125,7 +126,7 @@ def tags():
 
 
 def absent_flags():
-    """Libraries that need c, whose name stands at 3 of their strings, and which aren't symbolic or are."""
+    """Libraries that need c, whose name is at offset 3 of their strings, and that are symbolic or not."""
     lines = []
     for entries, own in ((PLAIN, False), ([(FLAGS, 8)], False), (IS_SYMBOLIC, True)):
         o = own_f(entries)
@@ -137,7 +138,8 @@ def absent_flags():
     return lines
 
 
-# The value of a symbol of a symbolic b, as VALUES has it of another one: its own exports are found before a's.
+# The value of a symbol of a symbolic b, as in VALUES for other libraries: its own exports are found before
+# a's.
 SYMBOLIC_VALUES = {**VALUES, (GLOBAL, DEFAULT, True): (OF_OWN, OF_OWN, OF_OWN), (WEAK, DEFAULT, True): (OF_OWN, OF_OWN, OF_OWN)}
 
 
@@ -148,7 +150,7 @@ def words_of_f(binding, visibility, section, kind=FUNC, entries=IS_SYMBOLIC):
 
 
 def values_of(first, o, result):
-    """The three words of a symbolic b, which stands at 0x12000 behind a and before c."""
+    """Returns the three words of a symbolic b, which is at 0x12000, after a and before c."""
     data = places(o)['data']
     a = a_with(binding=WEAK if first == 'a' else LOCAL)
     c = near(Case('first.so'), Object(b'c', symbols=[Symbol(b'f', GLOBAL if first == 'c' else LOCAL, FUNC, DEFINED)]))
@@ -173,7 +175,7 @@ def table_of_values():
 
 
 def types_that_ask():
-    """What isn't exported doesn't count in its own object either, and is looked up as any other."""
+    """A symbol that isn't exported doesn't count in its own object either, and is looked up like any other."""
     undefined, own = [], []
     for kind, binding in product((0, 1, 2, 3, 4, 7, 15), (GLOBAL, WEAK)):
         o = words_of_f(binding, DEFAULT, UNDEFINED, kind)
@@ -188,7 +190,8 @@ def types_that_ask():
 
 
 def own_value(binding, visibility, kind, section, at):
-    """What a symbolic b at 0x12000 has as its f, whose value is `at`, where a before it exports f too."""
+    """Returns the word that a symbolic b at 0x12000 has for its f, whose value is `at`, if a, which comes before it,
+    exports f too."""
     own = at if section == ABSOLUTE else 0x12000 + at
     if binding == LOCAL or (section != UNDEFINED and visibility != DEFAULT):
         return own
@@ -214,7 +217,7 @@ def definitions_of_every_kind():
 
 
 def own_definitions():
-    """The same at one place, and values that a reader might take for none."""
+    """The same at one place, and values that a reader could mistake for none."""
     def b_word(wanted, **fields):
         return word(Bind(p_with(), [a_with(), of_one_entry(SYMBOLIC, 0, **fields)]), B_WORD, wanted)
     return [
@@ -232,7 +235,7 @@ def own_definitions():
 
 
 def two_symbols(first, second, entries=IS_SYMBOLIC):
-    """A library whose word is of its first symbol, and which has a second one of the same name."""
+    """A library with a word of its first symbol, and with a second symbol of the same name."""
     symbols = [Symbol(b'f', **dict(dict(kind=FUNC), **fields)) for fields in (first, second)]
     return Object(b'b', symbols=symbols, relocations=[(R_64, 0, 1, 0)], data=16, entries=list(entries))
 
@@ -265,7 +268,7 @@ def names_twice():
 
 
 def programs():
-    """Symbolic programs, and others, with libraries that each have a word of f."""
+    """Symbolic programs and others, with libraries that each have a word of f."""
     defining = Object(needed=[b'a', b'b'], symbols=[Symbol(b'f', WEAK, FUNC, DEFINED, 8)], relocations=[(R_64, 0, 1, 0)], data=16,
                       entries=list(IS_SYMBOLIC))
     program = kept('symbolic-program.so', defining)
@@ -306,7 +309,7 @@ def several():
     plain, symbolic = (lambda n: named(n, PLAIN)), (lambda n: named(n, IS_SYMBOLIC))
     flagged = lambda n: named(n, [(FLAGS, 2)])
     def words(libraries, wanted, preloads=()):
-        """The word of each object of this load order, by the name of the object whose f it has."""
+        """The word of each object in load order, given as the name of the object that defines its f."""
         names = [n for n, _ in wanted]
         bind = Bind(prog(''.join(n for n in names if n not in preloads)), libraries, preloads)
         at = {n: 0x111c8 + 0x1000 * i for i, n in enumerate(names)}
@@ -331,7 +334,8 @@ def several():
 
 
 def needers():
-    """A library n that needs the symbolic s, both with a word of f; a before them exports f."""
+    """A library n that needs the symbolic library s. Both have a word of f, and a, which comes before them, exports
+    f."""
     o = Object(b'n', [b's'], [Symbol(b'f')], [(R_GLOB_DAT, 0, 1, 0)], data=16, entries=list(PLAIN))
     n_file, n_at = kept('symbolic-needer.so', o), 0x12000 + places(o)['data']
     n = near(n_file, o)
@@ -390,7 +394,7 @@ def others():
 
 
 def symbolic_slots(o):
-    """The file of an object with its first relocation in DT_JMPREL, and the tag SYMBOLIC."""
+    """Returns the file of an object with its first relocation in DT_JMPREL, and with the tag SYMBOLIC."""
     file, at = with_jmprel(Object(o.soname, symbols=o.symbols, relocations=o.relocations, data=o.data, nulls=2), 1)
     entry = at['data'] - 32
     assert file[entry:entry + 32] == bytes(32)
@@ -409,7 +413,7 @@ def wrong():
 
 
 def tells_wrong_readings():
-    """Every reading that breaks a rule gives another answer in some case."""
+    """Checks that every reading that breaks a rule gives another answer in some case."""
     for reading in WRONG:
         def differs(row):
             what, arguments, wanted = row

@@ -3,9 +3,9 @@
 
     python3 crates/cases/make/tails.py
 
-So many bytes of names are asked for that a binder which looks for each name by itself reads the strings many times over.
-The texts come from `binder.py`, the second reading; which object defines each word, and where, stands here as it was worked
-out by hand, and the texts agree with it.
+The names have a lot of bytes, so a binder that looks up each name separately reads the strings many times. The texts
+come from `binder.py`, the second reading. This file has the object that defines each word, and its place, which were
+determined by hand. The texts agree with them.
 """
 
 from dataclasses import dataclass
@@ -19,16 +19,16 @@ from samples import DEFINED, GLOBAL, OBJECT, R_64, R_GLOB_DAT, WEAK, Object, Sym
 
 LENGTH = 4000
 STRING = bytes(97 + i * i * i // 97 % 26 for i in range(LENGTH))
-LATE = 3000  # where another string differs, far from the first, the last and the middle bytes of its tails
+LATE = 3000  # the offset at which another string differs, far from the first, the last and the middle bytes of its tails
 OTHER = STRING[:LATE] + b'#' + STRING[LATE + 1:]
-FRONT = range(24)  # where tails begin that have the place of the difference in them
-BACK = range(LATE + 1, LATE + 7)  # and where some begin behind it
+FRONT = range(24)  # the beginnings of tails that contain the difference
+BACK = range(LATE + 1, LATE + 7)  # and of tails that begin after it
 SYMBOLIC = [(16, 0)]
 
 
 @dataclass
 class Tail(Symbol):
-    """A symbol whose name is the tail of a string of its object, by the string's number."""
+    """A symbol whose name is the tail of a string of its object, which is given by its number."""
     string: int = 0
 
 
@@ -63,7 +63,8 @@ def gives(k, at, string=0, of=STRING):
 
 
 def asking(symbols, soname=None, needed=(), strings=(STRING,), entries=(), room=0):
-    """An object that asks for its first symbols, as many as aren't defined, twice each: in their order, and again."""
+    """An object that refers to its first symbols, those that aren't defined. It refers to each twice: in their order,
+    and again."""
     asked = [i for i, s in enumerate(symbols) if s.section != DEFINED]
     relocations = [(kind, 8 * (n * len(asked) + i), s + 1, 0) for n, kind in enumerate((R_64, R_GLOB_DAT)) for i, s in enumerate(asked)]
     return Shared(soname, list(needed), symbols, relocations, 16 * len(asked) + room, entries=list(entries), strings=tuple(strings))
@@ -73,7 +74,7 @@ def giving(soname, symbols, strings=(STRING,), needed=()):
     return Shared(soname, list(needed), symbols, data=8 * (1 + len(symbols)), strings=tuple(strings))
 
 
-DATA_OF = {}  # where the data of each file begin
+DATA_OF = {}  # the offset of the data of each file
 
 
 def kept(name, o):
@@ -82,7 +83,7 @@ def kept(name, o):
 
 
 def mixed(tails):
-    """Some tails in an order that isn't that of their places."""
+    """Returns some tails in an order that differs from the order of their places."""
     return sorted(tails, key=lambda k: (k * 7) % 31)
 
 
@@ -91,8 +92,9 @@ def asker(name, needed, tails):
 
 
 def bound(bind, file, asker, words):
-    """A case of `bind` with its whole text. The words of the asker, by its place in load order, are worked out by hand: each is
-    the place of the object that defines it and where it stands in its data, or None. They come twice."""
+    """A case of `bind` with its whole text. The words of the object `asker`, given by its place in load order, were
+    determined by hand: each is the place of the object that defines the name and the offset in that object's data,
+    or None. The words come twice."""
     files = [bind.program.name] + [f.name for f, _ in bind.libraries]
     _, order = Binder().bind(*bind.arguments())
     held = Binder().memory(order)
@@ -105,7 +107,8 @@ def bound(bind, file, asker, words):
 
 
 def libraries():
-    """Libraries that export tails of strings which agree in all but one byte. The tails that begin behind it are equal."""
+    """Libraries that export tails of strings that are equal in all but one byte. The tails that begin after this byte
+    are equal."""
     def exporting(name, *exports):
         strings = tuple(of for _, of in exports)
         return kept(name, giving(b'a', [gives(k, 0, n, of) for n, (tails, of) in enumerate(exports) for k in tails], strings))
@@ -142,7 +145,8 @@ def lists():
     some = kept('tails-some.so', giving(b'a', [gives(k, at[k]) for k in FRONT if k % 3]))
     last = mixed(FRONT)[-1]
     most = kept('tails-most.so', giving(b'a', [gives(k, at[k]) for k in FRONT if k != last]))
-    # A library that asks for each of the names, and gives those at odd places itself, by another string.
+    # A library that refers to each of the names, and exports the names at odd places itself, by another
+    # string.
     def itself(name, entries):
         symbols = [asks(k) for k in mixed(FRONT)] + [gives(k, 16 * 24 + at[k], 1) for k in FRONT if k % 2]
         return kept(name, asking(symbols, b'c', strings=(STRING, STRING), entries=entries, room=8 * 24))

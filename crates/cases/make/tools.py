@@ -1,10 +1,12 @@
 #!/usr/bin/env python3
-"""Writes `tools.txt` of `data/`, and the files that it names: what `rlibreg-tool` tells of a disk, executables and bindings.
+"""Writes `tools.txt` of `data/`, and the files that it names: the answers of `rlibreg-tool` about a disk, executables
+and bindings.
 
     python3 crates/cases/make/tools.py
 
-It needs the disks and files that `disks.py` writes. Expected answers are `Tool`'s, a second reading over `disk.py` and `binder.py`.
-`WRONG` has readings that break a rule each: for every one of them some case has another answer, or this stops.
+It needs the disks and files that `disks.py` writes. Expected answers are `Tool`'s, a second reading over `disk.py` and
+`binder.py`. `WRONG` has readings that break one rule each. The script stops if no case has another answer by one of
+them.
 """
 
 import hashlib
@@ -25,13 +27,13 @@ ROWS = []  # the disk and the words of each case
 
 
 class Tool(OnDisk):
-    """What the tool tells. Opening reads no file."""
+    """The answers of the tool. Opening reads no file."""
 
     def is_library(self, entry):
         return True
 
     def run(self, word, rest):
-        """A status and an answer."""
+        """Returns a status and an answer."""
         self.open()
         if word in ('executable', 'bindings'):
             return getattr(self, word)((DATA / rest[0]).read_bytes(), int(rest[1], 16))
@@ -58,7 +60,8 @@ class Tool(OnDisk):
         return 0, found
 
     def largest(self):
-        """The greatest file that an install takes: the runs that it may lie in are as many as an entry lists."""
+        """Returns the length of the greatest file that can be installed: it may lie in as many runs as an entry
+        lists."""
         if len(self.entries) == MOST_LIBRARIES or self.has_ended():
             return 0
         room = self.unspent(len(self.entries) + 1) - 1
@@ -81,7 +84,7 @@ class Tool(OnDisk):
         return 0, self.form(order).file() if not refusal else refuse(refusal)
 
     def bindings(self, program, base):
-        """As a bind, but that all B3 are told, or all B5."""
+        """Binds like a bind, but reports each B3, or each B5."""
         binder, installed = Binder(), dict(self.libraries)
         order = binder.load_order(program, self.libraries, self.preloads)
         binder.place(order, base)
@@ -101,7 +104,7 @@ class Tool(OnDisk):
         return value is None
 
     def bound(self, binder, order, o, printed):
-        """The lines of the symbols that relocations name, by their numbers."""
+        """Returns the lines of the symbols that relocations name, by their numbers."""
         for i in sorted({symbol for _, kind, symbol, _ in o.elf.relocations() if kind in (R_64, R_GLOB_DAT, 7) and symbol}):
             symbol = o.elf.symbol(i)
             name = rules.printed_name(o.elf.string(symbol['name']))
@@ -120,7 +123,7 @@ def refuse(text):
 
 
 class Executable:
-    """The static executable of objects in their places, by docs/TOOL.md and the gABI."""
+    """The static executable of placed objects, by docs/TOOL.md and the gABI."""
 
     def __init__(self, order):
         self.order, self.held = order, Binder().memory(order)
@@ -142,7 +145,7 @@ class Executable:
                     refuse(f'{name} {rules.printed_name(o.name)}')
 
     def noted(self):
-        """The object whose notes are read."""
+        """Returns the object whose notes are read."""
         return self.order[0]
 
     def is_of_notes(self, header):
@@ -150,7 +153,8 @@ class Executable:
         return kind == 4 and align == 4
 
     def notes(self):
-        """The notes of the first program header of notes that are padded to multiples of four, as far as they are whole."""
+        """Returns the notes of the first program header whose notes are padded to multiples of four, up to the first
+        incomplete one."""
         o = self.noted()
         offset, count = struct.unpack_from('<Q', o.data, 32)[0], struct.unpack_from('<H', o.data, 56)[0]
         headers = [o.data[offset + 56 * i:offset + 56 * (i + 1)] for i in range(count)]
@@ -169,7 +173,8 @@ class Executable:
         return CALLS in self.notes()
 
     def pages(self):
-        """What each page permits: what any of its segments does, but writing and executing only where one asks for both."""
+        """Returns the permissions of each page: those of any of its segments. The page may be both written and executed
+        only if one segment permits both."""
         pages = {}
         for o, start, end, flags in self.segments:
             for page in range(start // PAGE, (end - 1) // PAGE + 1):
@@ -185,7 +190,8 @@ class Executable:
         return pages
 
     def pieces(self):
-        """Neighbouring pages that permit the same: from the first byte of a segment there to the last."""
+        """Returns runs of neighbouring pages with the same permissions, each from the first byte of a segment in it to
+        the last."""
         pieces, pages = [], self.pages()
         for page, flags in sorted(pages.items()):
             inside = [(max(start, page * PAGE), min(end, (page + 1) * PAGE)) for _, start, end, _ in self.segments
@@ -198,7 +204,7 @@ class Executable:
         return [it[:3] for it in pieces]
 
     def content(self, start, end, flags):
-        """Its bytes; zeros at the end of what may be written are left to the kernel."""
+        """Returns the bytes of a piece. The kernel makes the zeros at the end of a piece that may be written."""
         content = bytes(self.held.get(k, 0) for k in range(start, end))
         return content.rstrip(b'\0') if flags & WRITE else content
 
@@ -253,7 +259,7 @@ class LeavesUndefined(Tool):
 
 
 def formed(name, **methods):
-    """A reading of executables that breaks a rule."""
+    """Returns a reading of executables that breaks a rule."""
     form = type(name, (Executable,), methods)
     return type(name, (Tool,), {'form': lambda self, order: form(order)})
 
@@ -287,7 +293,7 @@ def answer(told):
 
 
 def on(before, words, wanted=None):
-    """A case. `wanted` is its status and the answer, worked out by hand."""
+    """A case. `wanted` is its status and its answer, which were determined by hand."""
     word, *rest = words.split(' ')
     status, told, error = run(before, words)
     ending = f'{status} error {error}' if error else f'{status} {answer(told)}'
@@ -299,7 +305,7 @@ def on(before, words, wanted=None):
 
 
 def run(before, words, reading=Tool):
-    """The status, the answer and the error."""
+    """Returns the status, the answer and the error."""
     word, *rest = words.split(' ')
     try:
         return *reading(bytes_of(before)).run(word, rest), ''
@@ -308,7 +314,7 @@ def run(before, words, reading=Tool):
 
 
 def ended(row, reading):
-    """What a case ends with by a reading, or None where the reading has no answer."""
+    """Returns the end of a case by a reading, or None if the reading has no answer."""
     try:
         return run(*row, reading)
     except (TypeError, struct.error):
@@ -316,7 +322,7 @@ def ended(row, reading):
 
 
 def tell_wrong():
-    """Stops where a reading that breaks a rule has no case with another answer."""
+    """Stops if no case distinguishes a reading that breaks a rule."""
     for reading in WRONG:
         differ = sum(ended(row, reading) != run(*row) for row in ROWS)
         assert differ, reading.__name__
@@ -324,7 +330,7 @@ def tell_wrong():
 
 
 def with_entry(file, entry, flags=7):
-    """A file with an entry, whose first segment permits this."""
+    """Returns a file with an entry, whose first segment has these permissions."""
     file = bytearray(file)
     struct.pack_into('<Q', file, 24, entry)
     struct.pack_into('<I', file, 64 + 4, flags)
@@ -332,23 +338,24 @@ def with_entry(file, entry, flags=7):
 
 
 def two_segments(first, second):
-    """A program of two segments in one page, which permit this."""
+    """A program of two segments in one page, with these permissions."""
     end = len(build(Object(headers=[bytes(56)]))[0])
     extra = program_header(1, second, end, end, 168, 168, 8)
     file = build(Object(headers=[extra[:24] + struct.pack('<Q', end) + extra[32:]]))[0]
-    # The segments stand before the dynamic section, in their order.
+    # The segments come before the dynamic section, in their order.
     headers = [file[64 + 56 * i:64 + 56 * (i + 1)] for i in range(3)]
     file = file[:64] + headers[0] + headers[2] + headers[1] + file[64 + 168:]
     return with_entry(file + bytes(range(168)), 0x40, first)
 
 
 def note(name, kind, descriptor=b''):
-    """A note; a name that has no whole number of four bytes is padded."""
+    """Returns a note. A name is padded to a multiple of four bytes."""
     return struct.pack('<III', len(name), len(descriptor), kind) + name + bytes(-len(name) % 4) + descriptor + bytes(-len(descriptor) % 4)
 
 
 def noted(o, notes, size=None, align=4, more=()):
-    """An object with notes at the end of its data, of `size` bytes by its program header, and with other headers of notes before that."""
+    """Returns an object with notes at the end of its data, `size` bytes long by their program header, and with other
+    headers of notes before that header."""
     o.data += len(notes)
     o.headers = [bytes(56)] * (1 + len(more))
     end = build(o)[1]['data'] + o.data
@@ -359,7 +366,8 @@ def noted(o, notes, size=None, align=4, more=()):
 
 
 def prepare_noted():
-    """Programs that need a library with functions that nobody would call, and call them themselves or don't; such a library."""
+    """Programs that need a library with functions that nobody would call. Some of the programs call these functions
+    themselves. Also makes such a library."""
     def program(notes, **words):
         return with_entry(noted(Object(needed=[b'a'], symbols=[Symbol(b'f')], data=8, relocations=[(R_64, 0, 1, 0)],
                                        entries=[(PREINIT, 0), (PREINIT_SIZE, 8)]), notes, **words), 0x40)

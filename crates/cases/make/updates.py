@@ -3,9 +3,9 @@
 
     python3 crates/cases/make/updates.py
 
-It needs the disks and files that `disks.py` writes. Expected answers and disks come from `Draft`, a second reading of the rules of an
-update over `disk.py`; where a row has an answer or sectors of its own, worked out by hand, the two have to agree. `WRONG` has
-readings that break a rule each: for every one of them some case ends otherwise, or this stops.
+It needs the disks and files that `disks.py` writes. Expected answers and disks come from `Draft`, a second reading of
+the rules of an update over `disk.py`; if a row has an answer or sectors that were determined by hand, the two have to
+agree. `WRONG` has readings that break one rule each. The script stops if no case ends differently by one of them.
 """
 
 import struct
@@ -30,7 +30,8 @@ def cost(entry):
 
 
 class Draft(OnDisk):
-    """A registry in the midst of an update: the entries and the preloads are what its lines have planned, beside what stands."""
+    """A registry during an update. In addition to its current state, it has the entries and the preloads that the
+    update's lines have planned."""
 
     def is_library(self, entry):
         """Opening reads no file."""
@@ -41,7 +42,7 @@ class Draft(OnDisk):
         return self
 
     def planned(self):
-        """What the update has written and not taken out again: entries by their sectors."""
+        """Returns the entries that the update has written and not removed again, by their sectors."""
         return {place: entry for place, entry in zip(self.places, self.entries) if place not in self.stood}
 
     def kept_entries(self):
@@ -53,25 +54,26 @@ class Draft(OnDisk):
         return [k for k in range(2, self.count()) if k not in used]
 
     def is_too_long(self, need, libraries):
-        """What is free before the update, without what it put, and without two for each catalogue that its list has more."""
+        """Returns whether a file of `need` sectors has no room. The room is what was free before the update, without
+        what the update wrote, and without two sectors for each additional catalogue of its list."""
         before = self.count() - 2 - sum(cost(e) for e in self.stood.values()) - 2 * len(self.root.listed)
         now = catalogues_for(len(self.entries))
         free = before - sum(cost(e) for e in self.planned().values()) - 2 * max(0, now - len(self.root.listed))
         return need + 1 + 2 * (catalogues_for(libraries) - now) > free
 
     def put_catalogues(self, places, taken):
-        """A line writes none."""
+        """A line writes no catalogues."""
         return []
 
     def commit(self, preloads, places, catalogues):
-        """What a line changes: the draft alone."""
+        """A line changes only the draft."""
         self.relisted = self.relisted or places != self.places
         self.root = self.root._replace(preloads=preloads)
         self.places, self.entries = places, [read_entry(self.sector(k)) for k in places]
         self.changed = True
 
     def make(self):
-        """The commit of all that was planned: of preloads alone the catalogues stay."""
+        """Commits everything that was planned. If only preloads were planned, the catalogues stay."""
         if self.changed:
             catalogues = OnDisk.put_catalogues(self, self.places, []) if self.relisted else self.root.listed
             OnDisk.commit(self, self.root.preloads, self.places, catalogues)
@@ -167,8 +169,9 @@ WRONG = [FreesWhatStands, KeepsWhatItTookOut, CountsNoCatalogue, FreesTheCatalog
 
 
 def run(before, text, reading=Draft):
-    """The status, the answer, the error and the disk behind an update. Of one that is refused what its few lines wrote, which nothing
-    uses, waits in memory still where its sectors are neighbours, and never comes into the file."""
+    """Returns the status, the answer, the error and the disk after an update. If an update is refused, the sectors
+    that its few lines wrote are used by nothing. If these sectors are neighbours, they are still in memory, and
+    never reach the file."""
     draft = reading(bytes_of(before))
     try:
         draft.open()
@@ -185,7 +188,7 @@ def answer_text(told, error):
 
 
 def on(before, *lines, wanted=None, has='', end=b'\n'):
-    """A case. `wanted` is its last line, and `has` some bytes of the disk behind it, worked out by hand."""
+    """A case. `wanted` is its last line, and `has` some bytes of the disk after it, both determined by hand."""
     text = b'\n'.join(line if isinstance(line, bytes) else line.encode() for line in lines) + (end if lines else b'')
     status, told, error, left = run(before, text)
     assert wanted is None or (error or told).splitlines()[-1] == wanted, (before, lines, told, error, wanted)
@@ -200,14 +203,15 @@ def file(name):
 
 
 def sized(before, sectors):
-    """A disk of another size."""
+    """Returns a disk of another size."""
     how = 'cut' if sectors * SECTOR < len(bytes_of(before)) else 'pad'
     first = '' if before.startswith('made=') else f' 0x10={sectors:02x}'
     return f'{before}{first} 0x210={sectors:02x} {how}={sectors * SECTOR}'
 
 
 def at_the_last_sector(before, sectors, *lines):
-    """Two cases: a line has no room where the disk has one sector fewer, and all are made where it has so many."""
+    """Two cases: on a disk with one sector fewer, a line has no room; on a disk of `sectors` sectors, all changes are
+    made."""
     return [on(sized(before, sectors - 1), *lines, b'commit', wanted=S7), on(sized(before, sectors), *lines, b'commit', wanted=OK)]
 
 
@@ -297,7 +301,7 @@ def dumps():
 
 
 def ended(row, reading):
-    """What an update ends with by a reading, or None where the reading has no answer."""
+    """Returns the end of an update by a reading, or None if the reading has no answer."""
     try:
         return run(*row, reading)
     except (Refused, struct.error):
@@ -305,7 +309,7 @@ def ended(row, reading):
 
 
 def tell_wrong():
-    """Stops where a reading that breaks a rule ends no case otherwise."""
+    """Stops if a reading that breaks a rule ends every case in the same way as the rules."""
     for reading in WRONG:
         differ = sum(ended(row, reading) != run(*row) for row in ROWS)
         assert differ, reading.__name__

@@ -1,5 +1,5 @@
-"""Cases of disks of version 1, of their upgrade, and of disks with roots of both versions. `data/old-*.disk` are disks that were
-written before there was a version 2."""
+"""Cases of disks of version 1, of their upgrade, and of disks with roots of both versions. `data/old-*.disk` are
+disks that were written before version 2 existed."""
 
 import hashlib
 
@@ -10,7 +10,7 @@ OLD, NEW = '524c494252454731', '524c494252454732'
 S5, S7, S12 = '1 refused S5 Damaged', '1 refused S7 Full', '1 refused S12 OldFormat'
 S10, END = '1 refused S10 GenerationEnd', '0 end'
 TWO = '4c49424302'  # a catalogue of two libraries
-# The first digits of the SHA-256 of the disks, which nothing writes any more.
+# The first digits of the SHA-256 of the disks, which no command writes any more.
 SUMS = {
     'old-formatted.disk': '24a368dd8db6b73e',
     'old-full.disk': 'e0187a9d52c8e8a9',
@@ -23,7 +23,8 @@ SUMS = {
     'old-three.disk': '76ab1c75a9e5c4df',
 }
 
-# What an upgrade writes to each of them, and what is listed then: none of its other bytes changes.
+# The bytes that an upgrade writes to each disk, and the later listing. No other byte of the disk
+# changes.
 UPGRADED = {
     'old-formatted.disk': (f'0x200={NEW}01 0x210=08', None),
     'old-one.disk': (f'0x0={NEW}02 0x14=01 0x38=01 0x40=04 0x800=4c49424301 0x810=03', 'one.listing'),
@@ -39,7 +40,7 @@ UPGRADED = {
 
 
 def see_old_disks():
-    """Sees that the disks are those that were written then."""
+    """Checks that the disks still have the bytes that were written at that time."""
     for path in sorted(DATA.glob('old-*.disk')):
         assert hashlib.sha256(path.read_bytes()).hexdigest().startswith(SUMS[path.name]), path.name
 
@@ -89,12 +90,14 @@ def images():
 
 
 def first_of_hundred(count, sectors):
-    """The disk of the first of a hundred libraries on so many sectors: their data and entries lie in turn from sector 2 on."""
+    """Returns a disk of `sectors` sectors with the first `count` of a hundred libraries. From sector 2 on, their data
+    and entries alternate."""
     return f'old-hundred.disk cut={512 * sectors} 0x10={sectors:02x} 0x14={count:02x} 0x{64 + 4 * count:x}={bytes(4 * (100 - count)).hex()}'
 
 
 def hundred_upgraded():
-    """The disk of a hundred libraries after its upgrade: the catalogues in the sectors 202 and 203 list all odd sectors from 3 on."""
+    """Returns the disk of a hundred libraries after its upgrade: the catalogues in sectors 202 and 203 list all odd
+    sectors from 3 on."""
     entries = b''.join((2 * i + 3).to_bytes(4, 'little') for i in range(100))
     return (f'old-hundred.disk pad=105472 0x200={NEW}65 0x210=ce 0x214=64 0x238=02 0x23a={bytes(454).hex()} 0x240=ca000000cb'
             f' 0x19400=4c4942434000 0x19410={entries[:256].hex()} 0x19600=4c4942432400 0x19610={entries[256:].hex()}')
@@ -168,17 +171,18 @@ def damaged():
 
 
 def slot(k, version, generation):
-    """The root of a registry without libraries on 8 sectors."""
+    """Returns the root of a registry without libraries on 8 sectors."""
     return f'0x{512 * k:x}={OLD if version == 1 else NEW}{generation:02x} 0x{512 * k + 16:x}=08'
 
 
 def combinations():
-    """Root sectors of either version, of neighbouring generations and of others, empty ones and bad ones, in each combination."""
+    """Root sectors of either version, of neighbouring generations and of others, and empty and bad ones, in each
+    combination."""
     even = {'empty': '', 'bad 1': f'0x0={OLD}', 'bad 2': f'0x0={NEW}'}
     odd = {'empty': '', 'bad 1': f'0x200={OLD}', 'bad 2': f'0x200={NEW}'}
     even.update({(v, g): slot(0, v, g) for v in (1, 2) for g in (0, 2)})
     odd.update({(v, g): slot(1, v, g) for v in (1, 2) for g in (1, 3)})
-    # Where a root is current: its version and its generation.
+    # The current root, if there is one: its version and its generation.
     current = {((1, 0), 'empty'): (1, 0), ((2, 0), 'empty'): (2, 0)}
     for old, new in ((0, 1), (1, 2), (2, 3)):
         for versions in ((1, 1), (1, 2), (2, 2)):
@@ -199,7 +203,7 @@ def combinations():
 
 
 def changes():
-    """What commands do on a disk that was upgraded: the root of version 1 is written over."""
+    """The effects of commands on an upgraded disk: the root of version 1 is overwritten."""
     one = f'old-one.disk {UPGRADED["old-one.disk"][0]}'
     pair = f'old-pair.disk {UPGRADED["old-pair.disk"][0]}'
     empty = f'old-formatted.disk {UPGRADED["old-formatted.disk"][0]}'

@@ -1,4 +1,4 @@
-"""Readings of the rules of binding that break one of them each, for `binds.py`."""
+"""Readings of the rules of binding, for `binds.py`. Each breaks one rule."""
 
 from binder import HIGHEST_END, WHOLE, Binder, Placed
 from rules import find, own_address, unit
@@ -255,7 +255,7 @@ class IndexZeroLookedUp(Binder):
 
 
 class ToldByBytes(Binder):
-    """Objects of the same bytes are taken for one."""
+    """Takes objects of the same bytes for one object."""
 
     def own(self, o, i):
         first = next(p for p in self.objects if p.data == o.data)
@@ -288,7 +288,7 @@ class AllInstalled(Binder):
 
 
 class NamesOfNoneAreUndefined(Binder):
-    """An undefined symbol is told wherever a relocation has its number."""
+    """Reports an undefined symbol if any relocation has its number, even a relocation whose type names no symbol."""
 
     def undefined(self, order):
         for o in order:

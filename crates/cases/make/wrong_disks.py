@@ -1,4 +1,4 @@
-"""Readings of a disk that break one rule each. `tell` says which of them no case tells from `disk.py`."""
+"""Readings of a disk. Each breaks one rule. `tell` returns those that no case distinguishes from `disk.py`."""
 
 from disk import LAST_GENERATION, OnDisk, Refused, library_refusal
 from program import Program, is_command
@@ -7,7 +7,7 @@ from sectors import MOST_EXTENTS, Root, read_catalogue, spelt_catalogue, spelt_r
 
 
 class Stays(OnDisk):
-    """A commit whose root is what `following` makes of the one that it should be."""
+    """Makes a commit with the root that `following` makes of the right root."""
 
     def following(self, root):
         return root
@@ -99,7 +99,7 @@ class EntryBehindTheData(OnDisk):
 
 
 class OldSectorsAtOnce(OnDisk):
-    """The sectors of what is replaced are given to the new file in the same commit."""
+    """Gives the sectors of a replaced file to the new file in the same commit."""
 
     def replace_file(self, file):
         name = self.as_library(file)
@@ -110,14 +110,14 @@ class OldSectorsAtOnce(OnDisk):
 
 
 class OldCataloguesAtOnce(OnDisk):
-    """The sectors of the old catalogues are given to new data in the same commit."""
+    """Gives the sectors of the old catalogues to new data in the same commit."""
 
     def free(self):
         return sorted(super().free() + self.catalogues())
 
 
 class CataloguesWrittenOver(OnDisk):
-    """New catalogues are written in the old ones' place, as far as there are any."""
+    """Writes new catalogues over the old ones, up to the number of the old ones."""
 
     def put_catalogues(self, places, taken):
         sectors = []
@@ -129,7 +129,7 @@ class CataloguesWrittenOver(OnDisk):
 
 
 class CataloguesStay(OnDisk):
-    """Only catalogues that differ are written."""
+    """Writes only catalogues that differ."""
 
     def put_catalogues(self, places, taken):
         sectors = []
@@ -153,7 +153,7 @@ class CataloguesBeforeTheEntry(OnDisk):
 
 
 class CataloguesForPreloads(OnDisk):
-    """Preloads write the catalogues anew."""
+    """Writes the catalogues again for a change of preloads."""
 
     def preload_names(self, names):
         commit = self.commit
@@ -162,14 +162,14 @@ class CataloguesForPreloads(OnDisk):
 
 
 class CatalogueOfNone(OnDisk):
-    """An empty list has a catalogue."""
+    """Gives an empty list a catalogue."""
 
     def part_of_list(self, places):
         return super().part_of_list(places) or [[]]
 
 
 class LastCatalogueIsFull(OnDisk):
-    """The count of the last catalogue is always 64."""
+    """Takes the count of the last catalogue to be 64 in any case."""
 
     def catalogue(self, k, wanted):
         return super().catalogue(k, IN_CATALOGUE)[:wanted]
@@ -198,7 +198,7 @@ class ShortNotTested(OnDisk):
 
 
 class ShortByOne(OnDisk):
-    """Room for all catalogues and one more is wanted."""
+    """Requires room for all catalogues and one more."""
 
     def is_short(self):
         return self.root.version == 2 and self.entries and self.unspent(len(self.entries)) <= 0
@@ -210,7 +210,7 @@ class CataloguesCountOnce(OnDisk):
 
 
 class CataloguesOfTheListBefore(OnDisk):
-    """An installation counts the catalogues of the list before it."""
+    """Counts the catalogues of the list before an installation."""
 
     def is_too_long(self, need, libraries):
         return super().is_too_long(need, len(self.entries))
@@ -244,14 +244,14 @@ class RemoveIsFull(OnDisk):
 
 
 class CataloguesMayBeOthers(OnDisk):
-    """The sector of a catalogue may be an entry's or a file's as well."""
+    """Permits the sector of a catalogue to be an entry's or a file's too."""
 
     def used(self, entries):
         return [k for k in super().used(entries) if k not in self.catalogues()] + self.catalogues()
 
 
 class OldFormatNeverAnswered(OnDisk):
-    """Version 1 is opened by its own rules."""
+    """Opens a disk of version 1 by the rules of version 1."""
 
     def open(self):
         self.geometry()
@@ -276,7 +276,7 @@ class OldFormatIsDamaged(OnDisk):
 
 
 class OldFormatWhereARootIsOld(OnDisk):
-    """The older of two roots counts as well."""
+    """Counts the older of two roots too."""
 
     def open(self):
         self.geometry()
@@ -287,7 +287,7 @@ class OldFormatWhereARootIsOld(OnDisk):
 
 
 class OldBehindNew(OnDisk):
-    """A root of version 1 is current behind one of version 2."""
+    """Takes a root of version 1 as current after a root of version 2."""
 
     def goes_back(self, newer, older):
         return False
@@ -299,7 +299,7 @@ class NewBesideOldIsDamaged(OnDisk):
 
 
 class NoOldMagic(OnDisk):
-    """A sector with the magic of version 1 is empty."""
+    """Takes a sector with the magic of version 1 for an empty one."""
 
     def slot(self, k):
         return 'empty' if self.sector(k)[:8] == b'RLIBREG1' else super().slot(k)
@@ -328,7 +328,7 @@ class UpgradeDropsPreloads(Stays):
 
 
 class UpgradeWritesAgain(OnDisk):
-    """A disk of version 2 gets a commit as well."""
+    """Makes a commit on a disk of version 2 too."""
 
     def upgrade(self):
         if super().upgrade():
@@ -360,7 +360,7 @@ class UpgradeNeedsOneSectorMore(OnDisk):
 
 
 class UpgradeNeedsItsCatalogues(OnDisk):
-    """Room for the catalogues once is enough."""
+    """Accepts room for the catalogues once."""
 
     def has_no_room_for_catalogues(self):
         return self.unspent(len(self.entries)) + catalogues_for(len(self.entries)) < 0
@@ -372,7 +372,7 @@ class UpgradeNeedsNoRoom(OnDisk):
 
 
 class UpgradeBeforeTheEntries(OnDisk):
-    """S7 comes before what the entries say is tested."""
+    """Reports S7 before it tests the entries' contents."""
 
     def is_sound(self, entries):
         if self.root.version == 1 and None not in entries and self.has_no_room_for_catalogues():
@@ -381,7 +381,7 @@ class UpgradeBeforeTheEntries(OnDisk):
 
 
 class OldEntryWrittenOver(Stays):
-    """The list isn't changed: the new entry is written over the old one."""
+    """Doesn't change the list: writes the new entry over the old one."""
 
     def put_listed(self, name, file, place, libraries):
         at, taken = self.put(name, file, libraries)
@@ -436,7 +436,7 @@ class AnyParity(OnDisk):
 
 
 class TheGoodRootAlone(OnDisk):
-    """Where one root is bad or missing the other one is current."""
+    """If one root is bad or missing, takes the other one as current."""
 
     def choose(self):
         roots = [root for root in (self.slot(0), self.slot(1)) if isinstance(root, Root)]
@@ -660,14 +660,14 @@ class RunsTheCutLine(OnDisk):
 
 
 def readings():
-    """Each class of this module that breaks a rule, as a program."""
+    """Returns each class of this module that breaks a rule, as a program."""
     bases = (OnDisk, Program, Stays)
     kinds = [kind for kind in globals().values() if isinstance(kind, type) and kind.__module__ == __name__ and kind not in bases]
     return [(kind.__name__, kind() if issubclass(kind, Program) else Program(kind)) for kind in kinds if issubclass(kind, (OnDisk, Program))]
 
 
 def ends_otherwise(program, disk, words, given, ending):
-    """Whether a case ends otherwise. Where the reading itself fails that shows nothing."""
+    """Returns whether a case ends differently. A failure of the reading itself shows nothing."""
     try:
         return program.run(words.split(' '), disk, given) != ending
     except (ArithmeticError, LookupError, ValueError, TypeError, AttributeError, StopIteration):
@@ -675,11 +675,11 @@ def ends_otherwise(program, disk, words, given, ending):
 
 
 def tells(program, cases):
-    """Whether some case ends otherwise."""
+    """Returns whether some case ends differently."""
     return any(ends_otherwise(program, *case) for case in cases)
 
 
 def tell(cases):
-    """The names of the readings that no case tells from the rules, and how many readings there are."""
+    """Returns the names of the readings that no case distinguishes from the rules, and the number of readings."""
     all_of_them = readings()
     return [name for name, program in all_of_them if not tells(program, cases)], len(all_of_them)

@@ -1,4 +1,4 @@
-"""Readings of the rules of symbolic objects that break one of them each, for `symbolic.py`."""
+"""Readings of the rules of symbolic objects, for `symbolic.py`. Each breaks one rule."""
 
 from binder import Binder, Placed
 from rules import FLAGS, SYMBOLIC, elf_hash, find
@@ -48,7 +48,7 @@ class FlagFromTwoOn(Binder):
 
 
 class FlagOfAnyWord(Binder):
-    """The bit counts in the high 32 bits too."""
+    """Counts the bit in the high 32 bits too."""
 
     def is_symbolic(self, o):
         return has_tag(o) or (flags(o) | flags(o) >> 32) & 2 != 0
@@ -75,7 +75,7 @@ class TagAndFlag(Binder):
 
 
 class FlagsReplaceTheTag(Binder):
-    """Where FLAGS stands, the tag isn't asked for."""
+    """If there is a FLAGS, ignores the tag."""
 
     def is_symbolic(self, o):
         return flags(o) & 2 != 0 if o.elf.value(FLAGS) is not None else has_tag(o)
@@ -92,7 +92,7 @@ class TagOfTheValueZero(Binder):
 
 
 class OtherFlags(Binder):
-    """FLAGS_1 for FLAGS."""
+    """Reads FLAGS_1 in place of FLAGS."""
 
     def is_symbolic(self, o):
         return has_tag(o) or (o.elf.value(0x6ffffffb) or 0) & 2 != 0
@@ -110,7 +110,7 @@ class TagsOf32Bits(Binder):
 
 
 class BehindTheEnd(Binder):
-    """Entries behind the first NULL are read."""
+    """Reads entries after the first NULL."""
 
     def is_symbolic(self, o):
         at, size = o.elf.dynamics[0]['offset'], o.elf.dynamics[0]['filesz']
@@ -120,7 +120,7 @@ class BehindTheEnd(Binder):
 
 
 class AbsentFlags(Binder):
-    """Where FLAGS doesn't stand, the value of another entry is taken for it."""
+    """If there is no FLAGS, takes the value of another entry for it."""
 
     def other(self, o):
         raise NotImplementedError
@@ -141,7 +141,7 @@ class AbsentFlagsOfTheLast(AbsentFlags):
 
 
 class AbsentFlagsOfTheEnd(AbsentFlags):
-    """The value of NULL."""
+    """Takes the value of NULL."""
 
     def other(self, o):
         at = o.elf.dynamics[0]['offset'] + 16 * len(o.elf.entries()) + 8
@@ -154,7 +154,7 @@ class AbsentFlagsAreSet(AbsentFlags):
 
 
 class AbsentFlagsOfTheFile(AbsentFlags):
-    """The value at the file's begin."""
+    """Takes the value at the file's beginning."""
 
     def other(self, o):
         return int.from_bytes(o.data[8:16], 'little') | int.from_bytes(o.data[:8], 'little')
@@ -171,7 +171,7 @@ class AlwaysSymbolic(Binder):
 
 
 class TheProgramForAll(Binder):
-    """Every object is symbolic when the program is, and otherwise none."""
+    """Takes all objects as symbolic if the program is, and otherwise none."""
 
     def scope(self, order, asker):
         return [asker] + order if self.is_symbolic(order[0]) else order
@@ -188,21 +188,21 @@ class LoadOrderFirst(Binder):
 
 
 class ItselfAlone(Binder):
-    """A symbolic object asks nobody else."""
+    """Looks up a symbolic object's names in no other object."""
 
     def scope(self, order, asker):
         return [asker] if self.is_symbolic(asker) else order
 
 
 class ProgramFirst(Binder):
-    """The program comes before a symbolic object."""
+    """Looks in the program before a symbolic object."""
 
     def scope(self, order, asker):
         return [order[0], asker] + order if self.is_symbolic(asker) else order
 
 
 class PreloadsFirst(Binder):
-    """Objects of level 0 come before a symbolic object."""
+    """Looks in objects of level 0 before a symbolic object."""
 
     def load_order(self, program, libraries, preloads):
         self.first = 1 + len(preloads)
@@ -213,7 +213,7 @@ class PreloadsFirst(Binder):
 
 
 class FromItselfOn(Binder):
-    """A symbolic object asks those behind it before those before it."""
+    """For a symbolic object, looks in the objects after it before those that precede it."""
 
     def scope(self, order, asker):
         at = next(i for i, o in enumerate(order) if o is asker)
@@ -221,7 +221,7 @@ class FromItselfOn(Binder):
 
 
 class ItsNeedsToo(Binder):
-    """A symbolic object's needed libraries are looked in before the load order."""
+    """Looks in a symbolic object's needed libraries before the load order."""
 
     def scope(self, order, asker):
         if not self.is_symbolic(asker):
@@ -230,7 +230,7 @@ class ItsNeedsToo(Binder):
 
 
 class ItsNeedersToo(Binder):
-    """What needs a symbolic library looks in it first."""
+    """For an object that needs a symbolic library, looks in that library first."""
 
     def scope(self, order, asker):
         needed = [o for name in asker.needed() for o in order if o.name == name and self.is_symbolic(o) and o is not order[0]]
@@ -239,21 +239,21 @@ class ItsNeedersToo(Binder):
 
 
 class FirstForAll(Binder):
-    """Symbolic objects come first for everybody."""
+    """Looks in symbolic objects first for all objects."""
 
     def scope(self, order, asker):
         return [o for o in order if self.is_symbolic(o)] + order
 
 
 class LastForOthers(Binder):
-    """A symbolic object's definitions aren't found by others."""
+    """Finds no definitions of a symbolic object for other objects."""
 
     def scope(self, order, asker):
         return [o for o in super().scope(order, asker) if o is asker or not self.is_symbolic(o)]
 
 
 class TheFirstAlone(Binder):
-    """Only the first symbolic object in load order is looked in first."""
+    """Looks first only in the first symbolic object in load order."""
 
     def scope(self, order, asker):
         first = next((o for o in order if self.is_symbolic(o)), None)
@@ -267,7 +267,7 @@ class TheLastAlone(Binder):
 
 
 class LibrariesAlone(Binder):
-    """Preloads aren't symbolic."""
+    """Takes no preload as symbolic."""
 
     def load_order(self, program, libraries, preloads):
         self.preloads = preloads
@@ -278,7 +278,7 @@ class LibrariesAlone(Binder):
 
 
 class TwiceInLoadOrder(Binder):
-    """A symbolic object stands in load order once more."""
+    """Lists a symbolic object twice in load order."""
 
     def load_order(self, program, libraries, preloads):
         order = super().load_order(program, libraries, preloads)
@@ -286,7 +286,7 @@ class TwiceInLoadOrder(Binder):
 
 
 class FirstInLoadOrder(Binder):
-    """Symbolic objects come before the others in load order."""
+    """Puts symbolic objects before the others in load order."""
 
     def load_order(self, program, libraries, preloads):
         program, *order = super().load_order(program, libraries, preloads)
@@ -298,7 +298,7 @@ def own_symbols(o, name):
 
 
 class OwnUndefinedTaken(Binder):
-    """A symbolic object's own undefined symbol counts as its definition."""
+    """Counts a symbolic object's own undefined symbol as its definition."""
 
     def lookup(self, order, asker, name):
         if self.is_symbolic(asker):
@@ -318,7 +318,7 @@ class OwnUndefinedOfAValueTaken(Binder):
 
 
 class OwnNotExportedTaken(Binder):
-    """A symbolic object's own definition counts for it although it isn't exported."""
+    """Counts a symbolic object's own definition for that object, even if it isn't exported."""
 
     def counts(self, s):
         return s['section'] != 0
@@ -347,7 +347,7 @@ class OwnOfAnyTypeTaken(OwnNotExportedTaken):
 
 
 class HiddenFoundForOthers(Binder):
-    """A symbolic object's hidden definition is found for another object."""
+    """Finds a symbolic object's hidden definition for another object."""
 
     def exported(self, o, name):
         found = super().exported(o, name)
@@ -365,7 +365,7 @@ class LocalFoundForOthers(Binder):
 
 
 class AskedForWhatItDefines(Binder):
-    """Only a symbol that is defined itself is looked for in its own symbolic object first."""
+    """Looks first in a symbolic object only for symbols that it defines itself."""
 
     def value(self, order, o, i):
         self.asks = o.elf.symbol(i)['section'] != 0
@@ -376,7 +376,7 @@ class AskedForWhatItDefines(Binder):
 
 
 class TakenAsItStands(Binder):
-    """A symbolic object's symbol that is defined has its own address, exported or not."""
+    """Gives each defined symbol of a symbolic object its own address, exported or not."""
 
     def value(self, order, o, i):
         if i and self.is_symbolic(o) and o.elf.symbol(i)['section'] != 0:
@@ -385,7 +385,7 @@ class TakenAsItStands(Binder):
 
 
 class HiddenLookedUpInItself(Binder):
-    """An undefined hidden symbol of a symbolic object is looked up in the object itself."""
+    """Looks up an undefined hidden symbol of a symbolic object in the object itself."""
 
     def value(self, order, o, i):
         symbol = o.elf.symbol(i)
@@ -397,7 +397,7 @@ class HiddenLookedUpInItself(Binder):
 
 
 class OwnStrongAlone(Binder):
-    """Its own weak definition doesn't come first."""
+    """Doesn't put the object's own weak definition first."""
 
     def lookup(self, order, asker, name):
         found = find(asker.data, name)
@@ -415,7 +415,7 @@ class OwnOfValueZeroSkipped(Binder):
 
 
 class OwnProtectedNotTaken(Binder):
-    """A protected definition of a symbolic object is looked up elsewhere."""
+    """Looks up a protected definition of a symbolic object elsewhere."""
 
     def is_own(self, symbol):
         return symbol['binding'] == 0 or (symbol['section'] != 0 and symbol['visibility'] in (1, 2))
@@ -438,14 +438,14 @@ class OwnAbsoluteWithBase(Binder):
 
 
 class OfTheSameBytes(Binder):
-    """The object itself is told by its bytes."""
+    """Recognizes the object itself by its bytes."""
 
     def scope(self, order, asker):
         return [next(o for o in order if o.data == asker.data)] + order if self.is_symbolic(asker) else order
 
 
 class OfTheSameHash(Binder):
-    """What a symbolic object has under a hash is its own."""
+    """Takes any symbol of a symbolic object with the same hash for its own definition."""
 
     def lookup(self, order, asker, name):
         if self.is_symbolic(asker):
@@ -456,7 +456,7 @@ class OfTheSameHash(Binder):
 
 
 class NoSlots(Binder):
-    """A symbolic object's slots are looked up as those of another."""
+    """Looks up the slots of a symbolic object like those of another object."""
 
     def written(self, order, o, kind, symbol, addend):
         self.kind = kind
@@ -472,7 +472,7 @@ class NoWords(NoSlots):
 
 
 class StillRefused(Binder):
-    """A symbolic program is refused, as one with REL is."""
+    """Refuses a symbolic program, like a program with REL."""
 
     def bind(self, program, base, libraries, preloads):
         if self.is_symbolic(Placed(b'/program', program, 0)):

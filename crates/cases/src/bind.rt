@@ -12,7 +12,7 @@ use scope::Library;
 use std::alloc::Global;
 use std::io::Write;
 
-/// The part of an image that a case asks for.
+/// The part of an image that a case requests.
 #[derive(Clone, Copy)]
 pub(crate) enum Told {
     /// The whole text of the image.
@@ -61,7 +61,7 @@ fn put_number(text: &mut Vec<u8>, word: Option<u64>) -> Result<()> {
     Ok(())
 }
 
-/// Appends to `text` the part of an image that a case asks for.
+/// Appends to `text` the part of an image that a case requests.
 fn put_image(alloc: Global, text: &mut Vec<u8>, image: &Image, told: Told) -> Result<()> {
     match told {
         Told::Text => Ok(image.write_text(text)?),
@@ -70,8 +70,8 @@ fn put_image(alloc: Global, text: &mut Vec<u8>, image: &Image, told: Told) -> Re
     }
 }
 
-/// Binds a program with libraries, and appends to `text` the part of its image that the case asks
-/// for, or the refusal.
+/// Binds a program with libraries, and appends to `text` the part of its image that the case
+/// requests, or the refusal.
 fn put_bound(
     alloc: Global,
     text: &mut Vec<u8>,
@@ -108,7 +108,7 @@ fn put_with_files(
 }
 
 /// Binds the program of `FILE BASE [preload NAME ..] [+ LIBRARY] ..`, and appends to `text` the
-/// part of its image that the case asks for, or the refusal.
+/// part of its image that the case requests, or the refusal.
 pub(crate) fn put_bind(
     rt: &HostRuntime,
     text: &mut Vec<u8>,

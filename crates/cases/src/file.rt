@@ -17,7 +17,7 @@ fn file_bytes(rt: &HostRuntime, name: &str) -> Result<Vec<u8>> {
 }
 
 /// Returns the text of the file `name` of the folder. If it can't be read, the error has the file's
-/// name, and `what`, which says what the file is.
+/// name, and `what`, the purpose of the file.
 pub(crate) fn text_of_file(rt: &HostRuntime, what: &str, name: &str) -> Result<String> {
     fs::read_to_string(rt, name).context(format_args!("{what} {name}"))
 }
@@ -33,8 +33,8 @@ fn put(bytes: &mut [u8], at: usize, new: &[u8]) -> Result<()> {
     Ok(())
 }
 
-/// Returns the bytes that `value` encodes in digits, or, if it begins with `@`, the bytes of the
-/// file of the folder with the name after it.
+/// Returns the bytes that the digits of `value` encode. If `value` begins with `@`, returns the
+/// bytes of the folder's file whose name follows.
 fn new_bytes(rt: &HostRuntime, value: &str) -> Result<Vec<u8>> {
     match value.strip_prefix('@') {
         Some(name) => file_bytes(rt, name),

@@ -1,6 +1,6 @@
 // Makes each call of a registry, of its binders, of an update and of the program once, by its
-// public path, with ample memory. Some of these calls are made by no program here, because they are
-// for programs that use a registry without a script.
+// public path, with enough memory. Some of these calls are for programs that use a registry without
+// a script, and are made by no program here.
 
 use crate::runs::words_of;
 use binders::{Binders, Event, EventReply};
@@ -96,7 +96,7 @@ fn opened(alloc: Global) -> Option<Registry<Memory>> {
     Registry::open(alloc, Registry::into_disk(registry)).ok()
 }
 
-// Returns whether `a` is the only library that was found, and none is missing.
+// Returns whether `a` is the only library that was found, and no library is missing.
 fn are_found(alloc: Global, found: &FoundLibraries) -> bool {
     let Ok(libraries) = FoundLibraries::libraries(found, alloc) else {
         return false;

@@ -14,7 +14,7 @@ const S4: Wanted = Err(StoreRefusal::AlreadyFormatted);
 
 const S5: Wanted = Err(StoreRefusal::Damaged);
 
-// The library `a` is listed. When its bytes are read again, they are zeros.
+// The library `a` is listed. The second read of its bytes returns zeros.
 const HELD: Wanted = Ok((
     "library a 344\nend\nrefused S5 Damaged\nrefused C2 AlreadyInstalled\n",
     9,
@@ -28,7 +28,7 @@ const EMPTY: Wanted = Ok(("end\nrefused B3 Missing /program a\nok\n", 8));
 /// formatted.
 pub(crate) type Row = (&'static [Harm], &'static [Wanted; 3]);
 
-// The results of a disk that is found damaged, in whichever order a liar returns its sectors.
+// The results of a damaged disk, for any order in which a liar returns its sectors.
 const DAMAGED: &[Wanted; 3] = &[S5, S5, S4];
 
 /// Rows for disks of version 1 and of version 2. In the order of the disk, the first sector of the

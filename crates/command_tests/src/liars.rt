@@ -13,8 +13,9 @@ use sector_disk::Liar;
 use std::alloc::Global;
 use store::StoreRefusal;
 
-// Makes a disk of eight sectors that returns these sectors in turn, whichever sector is read, with
-// sectors number 2 and `other` exchanged. After the opening it returns zeros.
+// Makes a disk of eight sectors that returns the sectors `sectors` one after the other, for any
+// sequence of reads, with sectors number 2 and `other` exchanged. After the reads of an opening, it
+// returns zeros.
 fn liar(alloc: Global, sectors: &Sectors, other: usize) -> Option<Liar>
     requires { other < 8 }
 {

@@ -1,5 +1,5 @@
 //! Tests of `commands`, `updates` and `registry` through their public calls, and of scripts over a
-//! registry on a disk that lies. They test what no clause and no stored case shows.
+//! registry on a disk that lies. They test facts that no clause and no stored case shows.
 #![tactic(auto)]
 
 #[cfg(test)]

@@ -17,7 +17,8 @@ fn missing(alloc: Global, needer: &[u8], name: &[u8]) -> Result<BindRefusal, All
     })
 }
 
-/// Returns how many calls of a writer the line of `refusal` takes, and the line's length in bytes.
+/// Returns the number of calls of a writer that the line of `refusal` takes, and the line's length
+/// in bytes.
 fn calls_of(refusal: &BindRefusal) -> Option<(u64, usize)> {
     let mut out = Full::with_room(4096);
     match write_refusal(&mut out, refusal) {

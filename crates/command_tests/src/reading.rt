@@ -23,7 +23,7 @@ static ROWS: [(&[Turn], usize, Result<usize, FileFault>); 11] = [
     (&[Gives(10)], 10, CANNOT),
     (&[Gives(9), Gives(1)], 10, CANNOT),
     (&[Gives(9), Gives(100_000)], 10, CANNOT),
-    // A read fails at once, or after another read, or because the system has no memory.
+    // A read fails immediately, or after another read, or because the system has no memory.
     (&[Fails(ErrorKind::Other)], 10, CANNOT),
     (&[Gives(9), Fails(ErrorKind::Other)], 10, CANNOT),
     (&[Fails(ErrorKind::OutOfMemory)], 10, CANNOT),

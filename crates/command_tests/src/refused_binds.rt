@@ -103,8 +103,8 @@ fn lacks(reply: &Reply, library: u8) -> bool {
     }
 }
 
-// Returns whether the first of two binds returns S1 (Device). If it does, the second has to return
-// B3 (Missing); otherwise the first has to return B3.
+// Returns whether the first of two binds returns S1 (Device). If it does, the second must return B3
+// (Missing); otherwise the first must return B3.
 fn is_failed(first: &Reply, again: &Reply, missing: u8) -> Option<bool> {
     if lacks(first, missing) {
         return Some(false);
@@ -119,7 +119,7 @@ fn fails(alloc: Global, case: &Case, call: u64) -> Option<bool> {
     is_failed(&first, &again, case.missing)
 }
 
-// Returns whether a bind reads exactly as many sectors as a case says.
+// Returns whether a bind reads exactly the number of sectors that a case has.
 fn reads(alloc: Global, case: &Case) -> bool {
     let mut same = true;
     for call in 1..10 {

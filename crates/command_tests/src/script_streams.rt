@@ -14,7 +14,7 @@ use std::alloc::Global;
 use std::io::ErrorKind;
 use std::test::Fail;
 
-/// Replies Done to every event, and notes a letter for each event.
+/// Replies Done to every event, and stores a letter for each event.
 #[derive(Drop)]
 struct Asked {
     /// The letters of the events.
@@ -94,7 +94,7 @@ const MEMORY: ScriptFault = ScriptFault::OutOfMemory;
 /// The turns of a reader, the letters of the events, and the script's result. Each event is
 /// answered `ok`.
 static CUT: [(&[Turn], &str, ScriptFault); 6] = [
-    // The reader fails at once, in the middle of a line, and between two lines.
+    // The reader fails immediately, in the middle of a line, and between two lines.
     (&[FAILS], "", READ),
     (&[Says("li"), FAILS], "", READ),
     (&[Says("list\npreload"), FAILS], "l", READ),

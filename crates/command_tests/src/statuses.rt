@@ -59,8 +59,8 @@ fn a_message_is_one_write_that_changes_no_status(rt: HostRuntime) {
 }
 
 /// Returns whether the status of these words is 3 if the output has room for fewer than `length`
-/// bytes, and `status` for `length` bytes and one more. `length` is the length of the text.
-/// Standard error has to stay empty.
+/// bytes, and `status` if it has room for `length` bytes or one more. `length` is the length of the
+/// text. Nothing may be written to standard error.
 fn needs_room(rt: &HostRuntime, words: &[&str], length: usize, status: u8) -> bool {
     let mut holds = true;
     for room in 0..length.saturating_add(2) {

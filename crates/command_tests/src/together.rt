@@ -1,5 +1,4 @@
-// Tests the times at which the answers of a script are written, observed by a reader and a writer
-// that share a counter.
+// Tests when the answers of a script are written. A reader and a writer share a counter for this.
 
 ghost use Rattle.std.specs.Prelude.{⊤};
 
@@ -12,8 +11,8 @@ use std::cell::Cell;
 use std::io;
 use std::io::{ErrorKind, Read, Write};
 
-/// A reader that returns these texts. If it is called again before every line that it has returned
-/// is answered, it fails.
+/// A reader that returns these texts. It fails if it is called again before every line that it has
+/// returned is answered.
 #[derive(Drop)]
 struct Asking<'a> {
     /// The texts, each with the number of lines that end in the texts before it.
@@ -63,12 +62,13 @@ impl Write for Answers<'_> {
     }
 }
 
-/// Refuses to remove `a`, fails to remove `b`, and answers everything else with Done. Notes whether
-/// an event happens before the answer to an earlier change is written. Refused changes don't count.
+/// Refuses to remove `a`, fails to remove `b`, and answers everything else with Done. Records
+/// whether an event happens before the answer to an earlier change is written. Refused changes
+/// don't count.
 #[derive(Drop)]
 struct Watching<'a> {
     asked: usize,
-    /// The number of answers that have to be written by now.
+    /// The number of answers that must have been written.
     due: usize,
     is_early: bool,
     answered: &'a Cell<usize>,

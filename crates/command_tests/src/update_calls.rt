@@ -84,8 +84,8 @@ fn replaced(
 
 #[test]
 fn what_an_update_replaced_is_free_behind_it(rt: HostRuntime) -> Result<(), Fail> {
-    // Besides the sectors of the library `a`, two sectors are free: as many as another version of
-    // `a` needs.
+    // In addition to the sectors of the library `a`, two sectors are free: as many as another
+    // version of `a` needs.
     let Ok(mut registry) = Registry::format(rt.alloc(), Memory::new(rt.alloc(), 8)?) else {
         panic!(rt; "no registry")
     };

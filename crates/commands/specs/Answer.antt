@@ -13,8 +13,8 @@ use Rattle.commands.specs.Line.{is_no_change, meaning}
 use Rattle.commands.specs.declared.answer.Answer.{Answer}
 use Rattle.commands.specs.declared.answer.Answer.TheVariants.{Replied, BadLine, CutLine}
 
--- The answer to a line is the reply to the event that the line asks for. A line that asks for nothing is
--- answered with BadLine, and changes nothing.
+-- The answer to a line is the reply to the event that the line requests. A line that has none of
+-- the forms is answered with BadLine, and changes nothing.
 abbrev pub LineStep : {S : Type 0} → (S → Happening → EventReply → S → Type 0) → S → List ℕ → Answer → S → Type 0
 LineStep step s line (Replied reply) s' = (happening : Happening) × (meaning line ≡ Some happening) × step s happening reply s'
 LineStep step s line BadLine s' = (meaning line ≡ None) × (s' ≡ s)
@@ -26,20 +26,20 @@ answer_text (Replied reply) = event_text reply
 answer_text BadLine = line_refusal_text refusal.BadLine
 answer_text CutLine = line_refusal_text refusal.CutLine
 
--- whether an answer counts as a refusal
+-- an answer is counted as a refusal
 abbrev pub is_refused : Answer → Bool
 is_refused (Replied (event_reply.Replied (Refused refusal))) = true
 is_refused (Replied reply) = false
 is_refused answer = true
 
--- whether an answer refuses with S1 or S2: a call of the disk failed, now or before
+-- an answer refuses with S1 or S2: this call of the disk or an earlier one failed
 abbrev pub is_failure : Answer → Bool
 is_failure (Replied (event_reply.Replied (Refused Device))) = true
 is_failure (Replied (event_reply.Replied (Refused Reopen))) = true
 is_failure answer = false
 
--- whether the answer to a line may be sent later: the answer is neither S1 nor S2, and the line was
--- refused or asks for no change
+-- the answer to a line may be sent later: it is neither S1 nor S2, and the line was refused or
+-- requests no change
 abbrev pub may_wait : List ℕ → Answer → Bool
 may_wait line answer = not (is_failure answer) && (is_refused answer || is_no_change (meaning line))
 

@@ -13,12 +13,12 @@ use Rattle.commands.specs.declared.answer.Answer.TheVariants.{Replied}
 use Rattle.scripts.specs.declared.fault.ScriptFault.{ScriptFault}
 use Rattle.commands.specs.declared.summary.Summary.{Summary}
 
--- the events that lines ask for, in the order of the lines; a line that has none of the forms asks for
--- nothing
+-- the events that lines request, in the order of the lines; a line that has none of the forms
+-- requests no event
 abbrev pub happenings : List (List ℕ) → List Happening
 happenings lines = filter_map meaning lines
 
--- the reply to the event of a line, if the line asks for one
+-- the reply to the event of a line, or none if the line requests no event
 abbrev pub event_reply_of : Answer → Option EventReply
 event_reply_of (Replied reply) = Some reply
 event_reply_of answer = None
@@ -27,8 +27,8 @@ event_reply_of answer = None
 abbrev pub replied : List Answer → List EventReply
 replied answers = filter_map event_reply_of answers
 
--- The events that the lines ask for happened over a disk, one after the other, with one reply for each
--- event. `EventsRan` also states which state a stop at any moment leaves.
+-- The events that the lines request happened over a disk, one after the other, with one reply for
+-- each event. `EventsRan` also states which state a stop at any moment leaves.
 abbrev pub LinesRan : {D : Type 0} → (D → DiskFacts) → Slotted D → Slotted D → List (List ℕ) → List Answer → Type 0
 LinesRan facts old new lines answers = EventsRan facts old new (happenings lines) (replied answers)
 
@@ -37,7 +37,7 @@ abbrev pub FinishesOnDisk : {D : Type 0} → (D → DiskFacts) → Streams → S
 FinishesOnDisk facts io old new summary = (whole : List (List ℕ)) × (cut : List ℕ) × (answers : List Answer)
     × Ends (EventStep facts) io old new summary whole cut answers × LinesRan facts old new whole answers
 
--- a script ended early, and the events of the lines that were answered by then happened
+-- a script ended early, and the events of the lines answered before its end happened
 abbrev pub StopsOnDisk : {D : Type 0} → (D → DiskFacts) → Streams → Slotted D → Slotted D → ScriptFault → Type 0
 StopsOnDisk facts io old new fault = (whole : List (List ℕ)) × (part : List ℕ) × (answers : List Answer)
     × Breaks (EventStep facts) io old new fault whole part answers × LinesRan facts old new whole answers

@@ -15,6 +15,6 @@ pub record DiskStep {D : Type 0} (facts : D → DiskFacts) (old : Opened D) (req
   pub applied : (s : State) → IsAt facts old s → Applies facts old new s request answer
   -- an accepted command makes exactly the calls of the disk that `calls_of` defines
   pub all_calls : (s : State) → IsAt facts old s → IfAccepted answer (AreCallsExactly (calls_of s request) (facts old.disk) (facts new.disk))
-  -- on any disk, even on a disk that lies, the answer is one that the command may get, and the command
-  -- had the effect that `Did` defines
+  -- on any disk, honest or not, the answer is one of the command's possible answers, and the
+  -- command had the effect that `Did` defines
   pub on_any_disk : Answered facts old new request answer

@@ -5,7 +5,7 @@ use Rattle.binders.specs.declared.event.EventReply.{EventReply}
 use Rattle.binders.specs.declared.event.EventReply.TheVariants.{Replied, Slot, Going}
 use Rattle.program_parts.specs.Reply.{reply_text}
 
--- the line that names the slot in which a binder was begun
+-- the line with the slot of a new binder
 abbrev pub slot_text : ℕ → List ℕ
 slot_text slot = codes "slot " ++ decimal slot ++ codes "\n"
 

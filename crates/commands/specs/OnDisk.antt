@@ -1,5 +1,5 @@
--- How a command ends on the disk that it is given: its effect on the disk, and the text that it writes
--- (own).
+-- The end of a command on the disk that it gets: its effect on the disk, and the text that it
+-- writes (own).
 use Rattle.std.specs.Prelude.{◌≡◌, ◌⊎◌, ℕ, List, replicate, Option, None, Result, Ok, Err, IsTrue}
 use Rattle.sector_disk.specs.Disk.{DiskFacts, Mixture, LeavesOnly}
 use Rattle.requests.specs.Request.{Request}
@@ -38,14 +38,15 @@ pub record IsAnswered {D : Type 0} (facts : D → DiskFacts) (disk : D) (request
   pub opened : EndsOpening facts disk (Ok old)
   pub new : Opened D
   pub step : DiskStep facts old request reply new
-  -- If an honest disk holds a state, the answer was a step of the step table from this state. A stop at
-  -- any moment leaves what a stop could leave before the opening, or what `MayLeaveWithin` allows.
+  -- If an honest disk holds a state, the answer is a step of the step table from this state. A stop
+  -- at any moment leaves contents that a stop could leave before the opening, or contents that
+  -- `MayLeaveWithin` allows.
   pub applied : IsTrue (facts disk).honest → (s : State) → Stands (facts disk).now s → (s' : State) × Applied facts old new s s' request reply
       × LeavesOnly (facts disk) (facts left) (λ m. Mixture (facts disk) m ⊎ MayLeaveWithin (phase_of facts old s) request reply s' m)
   pub back : left ≡ new.disk
 
--- either a request was answered and exactly its reply was written, or the disk was refused and exactly
--- the refusal was written
+-- a request was answered and exactly its reply was written, or the disk was refused and exactly the
+-- refusal was written
 abbrev pub RequestEnds : {D : Type 0} → (D → DiskFacts) → D → Request → Option (List ℕ) → Option (List ℕ) → Status → D → Type 0
 RequestEnds facts disk request before after status left =
     ((reply : Reply) × IsAnswered facts disk request reply left × IsTold (reply_status reply) (reply_text reply) before after status)
@@ -56,7 +57,7 @@ abbrev pub FormatEnds : {D : Type 0} → (D → DiskFacts) → D → Result (Uni
 FormatEnds facts disk answer left = (making : Result (Opened _) (StoreRefusal × _)) × EndsMaking facts disk making
     × (answer ≡ answer_of making) × (left ≡ disk_after making)
 
--- either the registry was upgraded and exactly `ok` was written, or the disk was refused and exactly the
+-- the registry was upgraded and exactly `ok` was written, or the disk was refused and exactly the
 -- refusal was written
 abbrev pub UpgradeEnds : {D : Type 0} → (D → DiskFacts) → D → Option (List ℕ) → Option (List ℕ) → Status → D → Type 0
 UpgradeEnds facts disk before after status left = (upgrading : Result (Opened _) (StoreRefusal × _)) × EndsUpgrading facts disk upgrading
@@ -75,15 +76,15 @@ module _ {D : Type 0} (facts : D → DiskFacts) (io : Streams) (old new : Slotte
       × Ends (Worsens (EventStep facts)) io (old, Done) (new, worst) summary whole cut answers
       × LinesRan facts old new whole answers × (status ≡ greatest worst (lines_status summary.refused))
 
-  -- A script ended early, and the events of the answered lines happened. The status is the greater of
-  -- two: the greatest status of the replies, and the status of the fault that ended the script.
+  -- A script ended early, and the events of the answered lines happened. The status is the greater
+  -- of two: the greatest status of the replies, and the status of the fault that ended the script.
   abbrev pub BreaksOnDisk : Type 0
   BreaksOnDisk = (worst : Status) × (fault : ScriptFault) × (whole : List (List ℕ)) × (part : List ℕ) × (answers : List Answer)
       × Breaks (Worsens (EventStep facts)) io (old, Done) (new, worst) fault whole part answers
       × LinesRan facts old new whole answers × (status ≡ greatest worst (fault_status fault))
 
--- The registry on a disk was opened, without binders and without held byte strings. Then a script was
--- run over it. `left` is the disk after the script.
+-- The registry on a disk was opened, without binders and without held byte strings, and then a
+-- script was run over it. `left` is the disk after the script.
 pub record IsScripted {D : Type 0} (facts : D → DiskFacts) (disk : D) (io : Streams) (status : Status) (left : D) : Type 0 where
   pub old : Slotted D
   pub opened : EndsOpening facts disk (Ok old.registry)
@@ -93,7 +94,7 @@ pub record IsScripted {D : Type 0} (facts : D → DiskFacts) (disk : D) (io : St
   pub run : RunsOnDisk facts io old new status ⊎ BreaksOnDisk facts io old new status
   pub back : left ≡ new.registry.disk
 
--- either a script was run over a disk, or the disk was refused and exactly the refusal was written
+-- a script was run over a disk, or the disk was refused and exactly the refusal was written
 abbrev pub DiskScriptEnds : {D : Type 0} → (D → DiskFacts) → D → Streams → Status → D → Type 0
 DiskScriptEnds facts disk io status left =
     IsScripted facts disk io status left

@@ -1,4 +1,4 @@
--- A registry on a disk over a file, right after it was made or upgraded (own).
+-- A registry on a disk over a file, immediately after it was made or upgraded (own).
 use Rattle.std.specs.Prelude.{◌≡◌, ℕ, Ok}
 use Rattle.store.specs.Opened.{Opened}
 use Rattle.file_disk.specs.FileDisk.{file_facts, IsNew}
@@ -11,8 +11,8 @@ use Rattle.registry.specs.Opening.{EndsMaking, EndsUpgrading}
 abbrev pub SystemDisk : Type 0
 SystemDisk = FileDisk DiskFile ghosts
 
--- a registry was made on a new disk of n sectors; exactly the calls of making were made, and none
--- failed; no byte string is held
+-- a registry was made on a new disk of n sectors: exactly the calls for making it were made, and
+-- none failed; no byte string is held
 pub record IsMade (n : ℕ) (disk : SystemDisk) (registry : Opened SystemDisk) : Type 0 where
   pub new : IsNew disk
   pub sectors : (file_facts disk).sectors ≡ n

@@ -27,15 +27,15 @@ use Rattle.commands.specs.Said.{bad_text}
 use Rattle.commands.specs.Script as work
 use Rattle.commands.specs.Words.{CommandLine, image, format, upgrade, install, replace, remove, preload, list, bind, script}
 
--- whether arguments are refused with status 2, before any file is opened: they aren't a command, or BASE
--- can't be read
+-- the arguments are refused with status 2 before any file is opened: they aren't a command, or BASE
+-- isn't valid
 abbrev pub are_bad : Option CommandLine → Bool
 are_bad (Some (image program base)) = is_none (base_of base)
 are_bad (Some (bind disk program base)) = is_none (base_of base)
 are_bad (Some line) = false
 are_bad None = true
 
--- whether the arguments are the command that reads standard input
+-- the arguments are the command `script`, which reads standard input
 abbrev pub reads_input : Option CommandLine → Bool
 reads_input (Some (script disk)) = true
 reads_input line = false
@@ -84,7 +84,7 @@ abbrev pub TurnsAway : (StoreRefusal → Type 0) → Status → Option (List ℕ
 TurnsAway MayRefuse status before after = (refusal : StoreRefusal) × MayRefuse refusal
     × (disk_status refusal ≡ status) × Appends before after (disk_refusal_text refusal)
 
--- a script was run over a new disk over a file; if the status is 0 or 1, the script was run to its end
+-- a script was run over a new disk over a file; with status 0 or 1, the script was run to its end
 pub record Runs (io : work.Streams) (status : Status) : Type 0 where
   pub disk : SystemDisk
   pub new : IsNew disk
@@ -109,7 +109,7 @@ IsRefused (Some (script disk)) io = Runs io Refused ⊎ TurnsAway IsOpenRefusal 
 IsRefused (Some line) io = Replies (Asks line) Refused io.before io.after ⊎ TurnsAway IsOpenRefusal Refused io.before io.after
 IsRefused None io = ⊥
 
--- status 4: memory was refused, perhaps for a line of a script or for a reply to a line
+-- status 4: memory was refused, possibly for a line of a script or for a reply to a line
 abbrev pub LacksMemory : Option CommandLine → work.Streams → Type 0
 LacksMemory (Some (script disk)) io = Runs io NoMemory ⊎ Appends io.before io.after memory_text
 LacksMemory (Some line) io = Appends io.before io.after memory_text
@@ -139,9 +139,9 @@ IsEnd line io status = CommandEnds line (work_of io) status
 abbrev pub LineEnds : Option CommandLine → Streams → ℕ → Type 0
 LineEnds line io number = (status : Status) × IsEnd line io status × (number ≡ status_number status)
 
--- The end of the program if its arguments couldn't be read. If memory was refused, exactly the line for
--- refused memory is written, or the output failed. After any other error, the program ends as if the
--- arguments were no command.
+-- The end of the program if its arguments couldn't be read. If memory was refused, exactly the line
+-- for refused memory is written, or the output failed. After any other error, the program ends in
+-- the same way as for arguments that aren't a command.
 abbrev pub UnreadEnds : ErrorKind → Streams → ℕ → Type 0
 UnreadEnds why io number =
     (why ≡ OutOfMemory → (status : Status) × IsTold NoMemory memory_text io.before io.after status × (number ≡ status_number status))

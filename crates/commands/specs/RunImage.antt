@@ -1,4 +1,4 @@
--- The text that is written when the image of a program is shown.
+-- The text that is written for the image of a program.
 use Rattle.std.specs.Prelude.{ℕ, List, Option, Some, None, ◌≡◌}
 use Rattle.std.specs.Io.KnownBytes.{Appends}
 use Rattle.image.specs.declared.refusal.BindRefusal.{BindRefusal}

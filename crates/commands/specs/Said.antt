@@ -6,7 +6,7 @@ use Rattle.commands.specs.Words.{CommandLine}
 abbrev pub words_text : List ℕ
 words_text = codes "rlibreg: bad command line\n"
 
--- the line for a BASE that can't be read
+-- the line for a BASE that isn't valid
 abbrev pub base_text : List ℕ
 base_text = codes "rlibreg: bad base\n"
 

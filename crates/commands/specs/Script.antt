@@ -20,21 +20,21 @@ abbrev pub cut_answer : List ℕ → List Answer
 cut_answer [] = []
 cut_answer (byte ∷ bytes) = CutLine ∷ []
 
--- the summary has the number of answers, and the number of refused answers; each number is limited to
--- the greatest u64
+-- the summary has the number of answers, and the number of refused answers; neither number is
+-- greater than the greatest u64
 pub record Counts (summary : Summary) (answers : List Answer) : Type 0 where
   pub lines : summary.lines ≡ u64_saturate (length answers)
   pub refused : summary.refused ≡ u64_saturate (count_by is_refused answers)
 
--- the bytes that are left to read, and the bytes that the writer holds before and after the work; a
+-- the bytes that are left to read, and the bytes that the writer has before and after the work; a
 -- field is none if the contract of the reader or the writer doesn't define it
 pub record Streams : Type 0 where
   pub unread : Option (List ℕ)
   pub before : Option (List ℕ)
   pub after : Option (List ℕ)
 
--- The writer holds exactly the answers to the first lines. Each of the other answers, except the last,
--- may be sent later.
+-- The writer has exactly the answers to the first lines. Each of the other answers, except the
+-- last, may be sent later.
 pub record IsHeldBack (before held : Option (List ℕ)) (whole : List (List ℕ)) (answers : List Answer) : Type 0 where
   pub told : List (List ℕ)
   pub untold : List (List ℕ)
@@ -47,10 +47,10 @@ pub record IsHeldBack (before held : Option (List ℕ)) (whole : List (List ℕ)
   pub little : AllZip MayWait (take (length missing - 1) untold) (take (length missing - 1) missing)
 
 module _ {S : Type 0} (step : S → Happening → EventReply → S → Type 0) where
-  -- The script was read to its end, and each line was answered by a step from the state that the line
-  -- before it left.
+  -- The script was read to its end, and each line was answered by a step from the state after the
+  -- previous line.
   pub record Ends (io : Streams) (s s' : S) (summary : Summary) (whole : List (List ℕ)) (cut : List ℕ) (answers : List Answer) : Type 0 where
-    -- the text consists of whole lines, each with its newline, and of the bytes after the last newline
+    -- the text is whole lines, each with its newline, and then the bytes after the last newline
     pub read : IfSome io.unread (λ text. text ≡ flat_map ended whole ++ cut)
     pub lines : All IsLine whole
     pub rest : IsLine cut
@@ -76,8 +76,8 @@ module _ {S : Type 0} (step : S → Happening → EventReply → S → Type 0) w
   abbrev pub Stops : Streams → S → S → ScriptFault → Type 0
   Stops io s s' fault = (whole : List (List ℕ)) × (part : List ℕ) × (answers : List Answer) × Breaks io s s' fault whole part answers
 
-  -- The writer failed. Before the failed write it held the text `held`, for which `IsHeldBack` holds.
-  -- Its contents after the failed write are unspecified.
+  -- The writer failed. Before the failed write it had the text `held`, for which `IsHeldBack`
+  -- holds. Its contents after the failed write are unspecified.
   abbrev pub StopsWriting : Streams → S → S → Option (List ℕ) → Type 0
   StopsWriting io s s' held = (whole : List (List ℕ)) × (part : List ℕ) × (answers : List Answer)
       × Breaks io s s' Write whole part answers × IsHeldBack io.before held whole answers

@@ -1,4 +1,4 @@
--- Which command the arguments of a command line ask for (own).
+-- The command that the arguments of a command line request (own).
 use Rattle.std.specs.Prelude.{ℕ, List, [], ◌∷◌, Option, Some, None, map, string_bytes, if◌then◌else◌, bytes_eq, codes}
 use Rattle.std.specs.Option.{option_map}
 use Rattle.commands.specs.Sectors.{sectors_of}
@@ -43,7 +43,8 @@ abbrev pub preload_behind : List (List ℕ) → Option CommandLine
 preload_behind (disk ∷ names) = Some (preload disk names)
 preload_behind [] = None
 
--- the command that arguments ask for: the first is the command's name, and the others are its own arguments
+-- the command that arguments request: the first argument is the command's name, and the others are
+-- its own arguments
 abbrev pub command_line : List (List ℕ) → Option CommandLine
 command_line (name ∷ words) =
     if bytes_eq name (codes "image") then of_two image words

@@ -7,7 +7,7 @@ ghost use Rattle.commands.specs.inside.Access.{access_of};
 use file_disk::Access;
 use requests::Command;
 
-/// Returns the access that a command needs. A listing and a bind only read; every other command may
+/// Returns the access that a command needs. A listing and a bind only read. Every other command may
 /// change the disk.
 pub(crate) fn access_of(command: &Command<'_>) -> Access
     ensures { result ≡ access_of (request_of command.now) }

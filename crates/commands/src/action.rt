@@ -8,15 +8,15 @@ ghost use Rattle.commands.specs.inside.Access.{disk_of};
 use crate::form::read_form;
 
 /// A command of the program, with its arguments in the order of the command line. The arguments are
-/// as they were given, except that SECTORS is a number. The first argument of every command except
-/// `image` is the path of the file that is the disk.
+/// unchanged, except that SECTORS is a number. The first argument of every command except `image`
+/// is the path of the disk's file.
 #[derive(Clone, Copy)]
 pub enum Action<'a> {
     /// Prints the image of a program that needs no library.
     Image {
         /// The path of the program's file.
         program: &'a str,
-        /// The argument BASE, which may not be readable as an address.
+        /// The argument BASE, which may not be a valid address.
         base: &'a str,
     },
     /// Makes an empty registry on a disk. If the file doesn't exist, makes the file too.
@@ -38,7 +38,7 @@ pub enum Action<'a> {
         /// The path of the library's file.
         file: &'a str,
     },
-    /// Replaces the file of the library with the same name.
+    /// Replaces the library that has the same name as the file.
     Replace {
         /// The path of the disk.
         disk: &'a str,
@@ -70,7 +70,7 @@ pub enum Action<'a> {
         disk: &'a str,
         /// The path of the program's file.
         program: &'a str,
-        /// The argument BASE, which may not be readable as an address.
+        /// The argument BASE, which may not be a valid address.
         base: &'a str,
     },
     /// Runs a script.
@@ -100,10 +100,10 @@ impl<'a> Action<'a> {
     }
 }
 
-/// Returns the command that the arguments after the program's name ask for, or `None`. The name of
-/// the command and the number of its arguments decide. In addition, the SECTORS of `format` must be
-/// 1 to 7 decimal digits with a value from 8 to 4,194,304. Every other argument may be any string.
-/// Allocates no memory.
+/// Returns the command that the arguments after the program's name request, or `None` if they
+/// request none. The name of the command and the number of its arguments determine the command. In
+/// addition, the SECTORS of `format` must be 1 to 7 decimal digits with a value from 8 to
+/// 4,194,304. Every other argument may be any string. Allocates no memory.
 pub fn read_words(words: &[String]) -> Option<Action<'_>>
     ensures { option_map line_of result
         ≡ command_line (map (λ word. string_bytes word) words.now) }

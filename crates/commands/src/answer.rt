@@ -19,7 +19,7 @@ use std::io::Write;
 /// The answer to a line of a script.
 #[derive(Drop)]
 pub enum Answer {
-    /// The reply to the event that the line asks for.
+    /// The reply to the event that the line requests.
     Replied(EventReply),
     /// L1 (BadLine): the line has none of the forms.
     BadLine,
@@ -27,7 +27,7 @@ pub enum Answer {
     CutLine,
 }
 
-/// Carries out the event that a line asks for, and returns the reply.
+/// Carries out the event that a line requests, and returns the reply.
 fn happen<G: TakesEvents>(binders: &mut G, asked: &Asked<'_>) -> EventReply
     ensures { G.step binders.old (happening_asked asked.now) result binders.new }
 {
@@ -42,7 +42,7 @@ fn happen<G: TakesEvents>(binders: &mut G, asked: &Asked<'_>) -> EventReply
     }
 }
 
-/// Returns whether a line asks for a change of the registry or of a binder.
+/// Returns whether a line requests a change of the registry or of a binder.
 fn asks_change(asked: &Option<Asked<'_>>) -> bool
     ensures { not result ≡ is_no_change (option_map happening_asked asked.now) }
 {
@@ -52,7 +52,7 @@ fn asks_change(asked: &Option<Asked<'_>>) -> bool
     }
 }
 
-/// Answers a line: carries out the event that it asks for, or returns L1 (BadLine).
+/// Answers a line: carries out the event that it requests, or returns L1 (BadLine).
 pub(crate) fn answer_asked<G: TakesEvents>(binders: &mut G, asked: &Option<Asked<'_>>) -> Answer
     ensures { (line : List ℕ) → option_map happening_asked asked.now ≡ meaning line
         → LineStep G.step binders.old line result binders.new }
@@ -63,7 +63,7 @@ pub(crate) fn answer_asked<G: TakesEvents>(binders: &mut G, asked: &Option<Asked
     }
 }
 
-/// Returns whether an answer counts as a refusal.
+/// Returns whether an answer is counted as a refusal.
 pub(crate) fn is_refused(answer: &Answer) -> bool
     ensures { result ≡ is_refused answer.now }
 {
@@ -86,9 +86,9 @@ fn is_failure(answer: &Answer) -> bool
     }
 }
 
-/// Returns whether the answer to a line may be sent later, together with others. An answer may be
-/// sent later if nothing was changed and the answer reports no failure. After S1 (Device) a change
-/// may have been made.
+/// Returns whether the answer to a line may be sent later, together with other answers. It may be
+/// sent later if the line changed nothing and the answer reports no failure. After S1 (Device), the
+/// line may have made a change.
 pub(crate) fn may_wait(asked: &Option<Asked<'_>>, answer: &Answer) -> bool
     ensures { (line : List ℕ) → option_map happening_asked asked.now ≡ meaning line
         → result ≡ may_wait line answer.now }
@@ -96,7 +96,7 @@ pub(crate) fn may_wait(asked: &Option<Asked<'_>>, answer: &Answer) -> bool
     !is_failure(answer) && (is_refused(answer) || !asks_change(asked))
 }
 
-/// Appends the text of an answer to the answers that aren't sent yet.
+/// Appends the text of an answer to the answers that haven't been sent yet.
 pub(crate) fn put_answer<W: Write>(
     waiting: &mut Line,
     out: &mut W,

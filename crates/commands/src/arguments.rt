@@ -1,4 +1,4 @@
-// Carries out the command that the arguments of the process ask for.
+// Carries out the command that the arguments of the process request.
 
 ghost use Rattle.std.specs.Prelude.{◌≡◌, ◌≢◌, ◌≤◌, ◌⊎◌, IfOk, IfErr, MatchResult, false};
 ghost use Rattle.std.specs.Prelude.{map, string_bytes};
@@ -15,8 +15,9 @@ use std::io;
 use std::io::{ErrorKind, Read, Write};
 use std::rt::{Clock, Files};
 
-/// If the arguments could be read, does the same as `run_words`. If memory for them was refused,
-/// reports S11 (OutOfMemory). After any other error, reports a bad command line.
+/// Does the same as `run_words` if the arguments could be read. If memory for the arguments was
+/// refused, reports S11 (OutOfMemory). If they couldn't be read for another reason, reports a bad
+/// command line.
 pub fn run_arguments<R: Files<File = File> + Clock, I: Read, O: Write, E: Write>(
     rt: &R,
     alloc: Global,
@@ -27,7 +28,7 @@ pub fn run_arguments<R: Files<File = File> + Clock, I: Read, O: Write, E: Write>
 ) -> u8
     ensures most { result ≤ 4 }
 
-    // If the arguments could be read, the command ends as `run_words` would end.
+    // If the arguments could be read, the command ends in the same way as `run_words`.
     ensures ends { IfOk words (λ list.
         LineEnds (command_line (map (λ word. string_bytes word) list.items)) (record {
           unread = I.remaining input.old;

@@ -1,4 +1,4 @@
-// The event that a line of a script asks for.
+// The event that a line of a script requests.
 
 ghost use Rattle.std.specs.Prelude.{◌≡◌, IfOk};
 ghost use Rattle.std.specs.Option.{option_map};
@@ -8,7 +8,7 @@ ghost use Rattle.commands.specs.inside.Asked.{happening_asked};
 use scripts::{AskedCommand, behind, parse_command, program_behind};
 use std::alloc::{AllocError, Global};
 
-/// The event that a line asks for, with the memory that it needs.
+/// The event that a line requests, with the memory that it needs.
 #[derive(Drop)]
 pub(crate) enum Asked<'a> {
     Apply(AskedCommand<'a>),
@@ -17,7 +17,7 @@ pub(crate) enum Asked<'a> {
     Cancel(usize),
 }
 
-/// Returns the slot that the word SLOT names, or `None` if SLOT isn't one decimal digit.
+/// Returns the slot for the word SLOT, or `None` if SLOT isn't one decimal digit.
 fn slot_in(word: &[u8]) -> Option<usize>
     ensures { result ≡ slot_of word.now }
 {
@@ -27,7 +27,7 @@ fn slot_in(word: &[u8]) -> Option<usize>
     }
 }
 
-/// Returns the event of a binder that a line asks for, or `None` if the line has none of these
+/// Returns the event of a binder that a line requests, or `None` if the line has none of these
 /// forms.
 fn parse_binder_line(alloc: Global, line: &[u8]) -> Result<Option<Asked<'_>>, AllocError>
     ensures { IfOk result (λ asked. option_map happening_asked asked ≡ binder_meaning line.now) }
@@ -47,8 +47,8 @@ fn parse_binder_line(alloc: Global, line: &[u8]) -> Result<Option<Asked<'_>>, Al
     Ok(None)
 }
 
-/// Returns the event that a line asks for, or `None` if the line has none of the forms. The only
-/// error is that memory is refused.
+/// Returns the event that a line requests, or `None` if the line has none of the forms. Fails only
+/// if memory is refused.
 pub(crate) fn parse_line(alloc: Global, line: &[u8]) -> Result<Option<Asked<'_>>, AllocError>
     ensures { IfOk result (λ asked. option_map happening_asked asked ≡ meaning line.now) }
 {

@@ -24,7 +24,7 @@ use std::fs::File;
 use std::io::{Read, Write};
 use std::rt::{Clock, Files};
 
-/// Shows the image of a file that was read, or reports why it wasn't read.
+/// Writes the image of a file that was read, or reports why the file wasn't read.
 pub(crate) fn show_read<O: Write, E: Write>(
     alloc: Global,
     read: Result<Vec<u8>, FileFault>,
@@ -112,7 +112,7 @@ fn run_action<R: Files<File = File> + Clock, I: Read, O: Write, E: Write>(
     }
 }
 
-/// Returns whether the command has a BASE that can't be read.
+/// Returns whether the command has a BASE that isn't a valid address.
 fn has_bad_base(action: &Action<'_>) -> bool
     ensures { result ≡ are_bad (Some (line_of action.now)) }
 {
@@ -122,8 +122,8 @@ fn has_bad_base(action: &Action<'_>) -> bool
     }
 }
 
-/// Refuses a command because the standard stream `behind` is open to the file of its disk. Reports
-/// a BASE that can't be read, or that the file can't be read, on standard error. If `behind` is
+/// Refuses a command because the standard stream `behind` leads to the file of the command's disk.
+/// Reports on standard error that BASE isn't valid, or that the file can't be read. If `behind` is
 /// standard error, reports nothing.
 fn keep_away<E: Write>(action: &Action<'_>, disk: &str, behind: Behind, errors: &mut E) -> Status
     ensures ends { ((result ≡ BadWords) × (are_bad (Some (line_of action.now)) ≡ true))
@@ -139,8 +139,8 @@ fn keep_away<E: Write>(action: &Action<'_>, disk: &str, behind: Behind, errors: 
     }
 }
 
-/// If a standard stream is open to the file of a command's disk, returns the path of the disk and
-/// the stream.
+/// Returns the path of a command's disk, and the standard stream that leads to the disk's file, if
+/// there is such a stream.
 fn disk_behind<'a, R: Files>(rt: &R, action: &Action<'a>) -> Option<(&'a str, Behind)> {
     let disk = action.disk()?;
     let reads_input = matches!(action, Action::Script { .. });
@@ -150,8 +150,8 @@ fn disk_behind<'a, R: Files>(rt: &R, action: &Action<'a>) -> Option<(&'a str, Be
     }
 }
 
-/// Carries out the command that the arguments ask for, unless a standard stream is open to its
-/// disk's file.
+/// Carries out the command that the arguments request, unless a standard stream leads to its disk's
+/// file.
 fn run_command<R: Files<File = File> + Clock, I: Read, O: Write, E: Write>(
     rt: &R,
     alloc: Global,
@@ -181,12 +181,11 @@ fn run_command<R: Files<File = File> + Clock, I: Read, O: Write, E: Write>(
     }
 }
 
-/// Carries out the command that `words`, the arguments after the program's name, ask for. Returns
-/// the program's exit status. The status is 0 if the command was carried out, 1 if it was refused,
-/// and 2 if the arguments aren't a command or BASE can't be read. It is 3 if the disk, a file or a
-/// stream failed, and 4 if memory was refused. The status of a script is the greatest that
-/// occurred. Only `script` reads standard input. The file FILE or PROGRAM is read before DISK is
-/// opened.
+/// Carries out the command that `words`, the arguments after the program's name, request. Returns
+/// the program's exit status: 0 if the command was carried out, 1 if it was refused, 2 if the
+/// arguments aren't a command or BASE isn't valid, 3 if the disk, a file or a stream failed, and 4
+/// if memory was refused. The status of a script is the greatest of the statuses of its lines. Only
+/// `script` reads standard input. Reads the file FILE or PROGRAM before it opens DISK.
 pub fn run_words<R: Files<File = File> + Clock, I: Read, O: Write, E: Write>(
     rt: &R,
     alloc: Global,
@@ -197,8 +196,8 @@ pub fn run_words<R: Files<File = File> + Clock, I: Read, O: Write, E: Write>(
 ) -> u8
     ensures most { result ≤ 4 }
 
-    // The status determines what was done, what was written to standard output and, if it is 2,
-    // what was written to standard error.
+    // The status determines the effect of the command, the text on standard output and, if the
+    // status is 2, the text on standard error.
     ensures ends { LineEnds (command_line (map (λ word. string_bytes word) words.now)) (record {
       unread = I.remaining input.old;
       before = O.contents output.old;
@@ -211,8 +210,8 @@ pub fn run_words<R: Files<File = File> + Clock, I: Read, O: Write, E: Write>(
     ensures unread { reads_input (command_line (map (λ word. string_bytes word) words.now)) ≡ false
         → input.new ≡ input.old }
 
-    // If a message goes to standard error, such as one about a file that can't be read, nothing
-    // goes to standard output.
+    // If a message is written to standard error, such as one about a file that can't be read,
+    // nothing is written to standard output.
     ensures apart { (E.contents errors.new ≡ E.contents errors.old)
         ⊎ (O.contents output.new ≡ O.contents output.old) }
 

@@ -1,4 +1,4 @@
-// Opens or makes the disk of a command over a file, or returns the reason why this isn't possible.
+// Opens or makes the disk of a command over a file, or returns the reason why this is impossible.
 
 ghost use Rattle.std.specs.Prelude.{◌≡◌, false, OnOk, IfErr};
 ghost use Rattle.store.specs.Opened.{Opened};
@@ -41,7 +41,7 @@ pub(crate) fn no_disk(fault: OpenFault) -> NoRegistry
     }
 }
 
-/// If a registry's file was newly made, gives the file its final name.
+/// Gives the file of a registry its final name, if the file is new.
 fn name_file<R: Files<File = File>>(rt: &R, name: Option<UnnamedFile<'_>>) -> Result<(), NoRegistry>
     ensures refused { IfErr result (IsNoRegistry IsFormatRefusal) }
 {
@@ -52,7 +52,7 @@ fn name_file<R: Files<File = File>>(rt: &R, name: Option<UnnamedFile<'_>>) -> Re
     }
 }
 
-/// If a registry's file was newly made, deletes the file.
+/// Deletes the file of a registry, if the file is new.
 fn take_away<R: Files<File = File>>(rt: &R, name: Option<UnnamedFile<'_>>) {
     if let Some(name) = name {
         name.take_away(rt);
@@ -60,8 +60,8 @@ fn take_away<R: Files<File = File>>(rt: &R, name: Option<UnnamedFile<'_>>) {
 }
 
 /// Makes an empty registry on a disk of `sectors` sectors, which is the file at `path`. If the file
-/// doesn't exist, makes it under another name, and gives it its final name once all of it is on the
-/// medium.
+/// doesn't exist, makes it under another name, and gives it its final name when the whole file is
+/// on the medium.
 pub(crate) fn make_registry<R: Files<File = File> + Clock>(
     rt: &R,
     alloc: Global,

@@ -9,8 +9,8 @@ use requests::Reply;
 use std::io::Write;
 use store::StoreRefusal;
 
-/// Writes `ok`, or the line of the refusal, and returns the answer's status. If the output fails,
-/// returns `Failed`.
+/// Writes `ok`, or the line of the refusal, and returns the status of the answer. If the output
+/// fails, returns `Failed`.
 pub fn write_disk_answer<O: Write>(answer: Result<(), StoreRefusal>, output: &mut O) -> Status
     ensures { IsTold (disk_answer_status answer) (disk_answer_text answer)
         (O.contents output.old) (O.contents output.new) result }

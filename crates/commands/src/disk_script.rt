@@ -13,17 +13,18 @@ use sector_disk::Disk;
 use std::alloc::Global;
 use std::io::{Read, Write};
 
-/// Runs a script over a registry on a disk, as `run_script` does over any type that takes events.
-/// The contract adds the effect on the disk: the commands of the answered lines are a run. On an
-/// honest disk, wherever the script ends, a stop at any moment leaves the state after a prefix of
-/// the accepted commands. The prefix contains every command acknowledged by then.
+/// Runs a script over a registry on a disk, in the same way as `run_script` does over any type that
+/// takes events. The contract adds the effect on the disk: the commands of the answered lines form
+/// a run. On an honest disk, a stop at any moment leaves the state after a prefix of the accepted
+/// commands, even if the script ends early. The prefix contains every command that was acknowledged
+/// before that moment.
 pub fn run_script_on_disk<R: Read, W: Write, D: Disk>(
     alloc: Global,
     reader: &mut R,
     writer: &mut W,
     binders: &mut Binders<D>,
 ) -> Result<Summary, ScriptFault>
-    // The whole script was read, and the commands of its lines are a run.
+    // The whole script was read, and the commands of its lines form a run.
     ensures ok { IfOk result (FinishesOnDisk D.facts (record {
       unread = R.remaining reader.old;
       before = W.contents writer.old;
@@ -31,8 +32,8 @@ pub fn run_script_on_disk<R: Read, W: Write, D: Disk>(
     })
         binders.old binders.new) }
 
-    // The script ended early. The commands of the answered lines are a run, and
-    // no other command was applied.
+    // The script ended early. The commands of the answered lines form a run, and no other command
+    // was applied.
     ensures err { IfErr result (StopsOnDisk D.facts (record {
       unread = R.remaining reader.old;
       before = W.contents writer.old;
@@ -40,7 +41,7 @@ pub fn run_script_on_disk<R: Read, W: Write, D: Disk>(
     })
         binders.old binders.new) }
 
-    // If a write failed, this clause defines the text that the writer held before that write.
+    // If a write failed, this clause defines the text that the writer had before that write.
     ensures sent { IfErr result (λ fault. fault ≡ ScriptFault.Write
         → (held : W) × StopsWriting (EventStep D.facts) (record {
           unread = R.remaining reader.old;

@@ -11,7 +11,7 @@ use scripts::ScriptFault;
 use std::io::Write;
 use text_output::WriteFault;
 
-/// Appends the line that names the slot in which a binder was begun.
+/// Appends the line with the slot of a new binder.
 fn put_slot<W: Write>(line: &mut Line, out: &mut W, slot: usize) -> Result<(), WriteFault>
     ensures ok { OnOk result (Sends (W.contents out.old) line.old (W.contents out.new) line.new
         (slot_text slot)) }
@@ -23,7 +23,8 @@ fn put_slot<W: Write>(line: &mut Line, out: &mut W, slot: usize) -> Result<(), W
     Ok(())
 }
 
-/// Appends the text of the reply to an event to the text that isn't sent yet. Allocates no memory.
+/// Appends the text of the reply to an event to the text that hasn't been sent yet. Allocates no
+/// memory.
 pub(crate) fn put_event_reply<W: Write>(
     line: &mut Line,
     out: &mut W,

@@ -1,4 +1,4 @@
-// Reads the forms of the commands. Each form is a name, followed by arguments.
+// Reads the forms of the commands. Each form is a name and, after it, arguments.
 
 ghost use Rattle.std.specs.Prelude.{◌≡◌, ◌∷◌, ℕ, List, map, string_bytes};
 ghost use Rattle.std.specs.Option.{option_map};
@@ -9,7 +9,7 @@ ghost use Rattle.commands.specs.Words.{bind, format_behind, preload_behind};
 use crate::action::Action;
 use crate::sectors::parse_sectors;
 
-/// If there is exactly one argument, returns it.
+/// Returns the argument if there is exactly one.
 fn one_word(words: &[String]) -> Option<&str>
     ensures { (command : List ℕ → CommandLine) → option_map (λ a. command a.now) result
         ≡ of_one command (map (λ word. string_bytes word) words.now) }
@@ -20,7 +20,7 @@ fn one_word(words: &[String]) -> Option<&str>
     }
 }
 
-/// If there are exactly two arguments, returns them.
+/// Returns the arguments if there are exactly two.
 fn two_words(words: &[String]) -> Option<(&str, &str)>
     ensures { (command : List ℕ → List ℕ → CommandLine)
         → option_map (λ w. command w.0.now w.1.now) result

@@ -1,10 +1,10 @@
 //! The work of the program `rlibreg` with arguments, lines and files, as a library.
 //!
-//! `run_image` and `run_script` work on bytes, readers and writers, and their contracts define
-//! the texts that they write. `run_request`, `run_format`, `run_upgrade` and
-//! `run_disk_script` work on any disk. `run_words` reads the arguments of a command line,
-//! opens files, passes them to these calls and returns the exit status. `run_arguments` does
-//! the same with the arguments of the process.
+//! `run_image` and `run_script` work on bytes, readers and writers, and their contracts define the
+//! texts that they write. `run_request`, `run_format`, `run_upgrade` and `run_disk_script` work on
+//! any disk. `run_words` reads the arguments of a command line, opens files, passes them to these
+//! calls, and returns the exit status. `run_arguments` does the same with the arguments of the
+//! process.
 #![tactic(auto)]
 
 mod access;

@@ -10,9 +10,9 @@ use std::alloc::Global;
 use std::io::Write;
 use store::StoreRefusal;
 
-/// Makes an empty registry on `disk`, and hands the disk back. `write_disk_answer` reports the
-/// answer. If the caller made a file for the disk, the caller gives the file its final name first,
-/// and reports the answer afterwards.
+/// Makes an empty registry on `disk`, and returns the disk. `write_disk_answer` reports the answer.
+/// A caller that made a file for the disk gives the file its final name first, and then reports the
+/// answer.
 pub fn run_format<D: Disk>(alloc: Global, disk: D) -> (Result<(), StoreRefusal>, D)
     ensures { FormatEnds D.facts disk result.0 result.1 }
 {
@@ -22,7 +22,7 @@ pub fn run_format<D: Disk>(alloc: Global, disk: D) -> (Result<(), StoreRefusal>,
     }
 }
 
-/// Makes a registry of version 2 from the registry on a disk of either version, and writes `ok`, or
+/// Makes a registry of version 2 from the registry on a disk of version 1 or 2, and writes `ok`, or
 /// the line of the refusal. Returns the status and the disk. If the output fails, the status is
 /// `Failed`, although the registry was upgraded.
 pub fn run_upgrade<D: Disk, O: Write>(alloc: Global, disk: D, output: &mut O) -> (Status, D)

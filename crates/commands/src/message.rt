@@ -1,4 +1,4 @@
-// Writes messages to standard error. If a write to standard error fails, the status doesn't change.
+// Writes messages to standard error. A failed write to standard error doesn't change the status.
 
 ghost use Rattle.std.specs.Prelude.{◌≡◌};
 ghost use Rattle.commands.specs.Said.{base_text, words_text};
@@ -23,7 +23,7 @@ pub(crate) fn bad_command_line<E: Write>(errors: &mut E) -> Status
     Status::BadWords
 }
 
-/// Reports that BASE can't be read.
+/// Reports that BASE isn't valid.
 pub(crate) fn bad_base<E: Write>(errors: &mut E) -> Status
     ensures status { result ≡ Status.BadWords }
     ensures said { AppendsFront (E.contents errors.old) (E.contents errors.new) base_text }

@@ -21,11 +21,11 @@ use scripts::{Got, ScriptFault, next_line};
 use std::alloc::Global;
 use std::io::{BufReader, Read, Write};
 
-/// The number of bytes that are read from the script at once.
+/// The maximum number of bytes that one read of the script requests.
 const PAGE: usize = 0x10000;
 
-/// Appends the answer to a line to the buffered answers. If this answer may not be sent later,
-/// sends all buffered answers.
+/// Appends the answer to a line to the buffered answers. Sends all buffered answers, unless this
+/// answer may be sent later.
 fn tell_answer<W: Write>(
     waiting: &mut Line,
     writer: &mut W,
@@ -75,7 +75,7 @@ fn answer_whole<W: Write, G: TakesEvents>(
     Ok(is_refused(&answer))
 }
 
-/// Answers the lines of a script. Some of the answers may not be sent yet at the end.
+/// Answers the lines of a script. At the end, some of the answers may not have been sent yet.
 fn run_lines<R: Read, W: Write, G: TakesEvents>(
     alloc: Global,
     pages: &mut BufReader<&mut R>,
@@ -126,18 +126,19 @@ fn run_lines<R: Read, W: Write, G: TakesEvents>(
 }
 
 /// Runs a script. Each line that has a newline gets the text of its reply, or `refused L1 BadLine`
-/// if it asks for nothing. A last line without a newline isn't run, and gets `refused L2 CutLine`.
-/// The script goes on after every refusal. If the reader fails, or memory for a line is refused,
-/// the replies to all whole lines before it were written, and nothing of the next line was applied.
-/// The script is read through a buffer, so more bytes may have been taken from the reader than were
-/// answered.
+/// if it has none of the forms. A last line without a newline isn't run, and gets `refused L2
+/// CutLine`. The script goes on after every refusal. If the reader fails, or memory for a line is
+/// refused, the script ends: the replies to all whole lines before it have been written, and the
+/// next line has changed nothing. The script is read through a buffer, so more bytes may have been
+/// read from the reader than were answered.
 ///
-/// The answer to a change that was made is written at once, after the buffered answers. A refusal
-/// with S1 (Device) or S2 (Reopen) is also written at once; after S1 it is unspecified whether the
-/// change was made. Other refusals, and answers to listings, binds and lines that ask for nothing,
-/// are buffered, up to 2 KiB, as long as whole lines are left in the reader's buffer. All of them
-/// are written before the reader is asked again, and at the end. So if the writer fails, the lines
-/// whose answers may be missing changed nothing, except the last line, which was applied.
+/// The answer to a line that made a change is written immediately, after the buffered answers. A
+/// refusal with S1 (Device) or S2 (Reopen) is also written immediately; after S1, it is unspecified
+/// whether the change was made. Other refusals, and answers to listings, binds and lines that have
+/// none of the forms, are buffered, up to 2 KiB, as long as whole lines remain in the reader's
+/// buffer. All buffered answers are written before the next read from the reader, and at the end.
+/// So if the writer fails, the lines whose answers may be missing changed nothing, except the last
+/// line, which was applied.
 pub fn run_script<R: Read, W: Write, G: TakesEvents>(
     alloc: Global,
     reader: &mut R,
@@ -157,7 +158,7 @@ pub fn run_script<R: Read, W: Write, G: TakesEvents>(
     })
         binders.old binders.new) }
 
-    // If a write failed, this clause defines the text that the writer held before that write.
+    // If a write failed, this clause defines the text that the writer had before that write.
     ensures sent { IfErr result (λ fault. fault ≡ ScriptFault.Write
         → (held : W) × StopsWriting G.step (record {
           unread = R.remaining reader.old;

@@ -21,8 +21,9 @@ use std::fs::File;
 use std::io::{Read, Write};
 use std::rt::{Clock, Files};
 
-/// Runs a script over a registry with binders, and keeps the greatest status of its replies, which
-/// is `Done` before the first reply. Returns the greatest status that occurred.
+/// Runs a script over a registry with binders, and computes the greatest status of its replies,
+/// which is `Done` before the first reply. Returns the greatest status of the replies and of the
+/// script's end.
 #[tactic(auto, using(crate::proofs::Statuses::after_lines, crate::proofs::Statuses::after_fault))]
 pub(crate) fn run_watched<I: Read, O: Write, D: Disk>(
     alloc: Global,
@@ -44,8 +45,8 @@ pub(crate) fn run_watched<I: Read, O: Write, D: Disk>(
     }
 }
 
-/// Opens the registry on `disk`, and runs the script in the input over it. If the disk is refused,
-/// writes the line of the refusal, and reads nothing. Returns the greatest status that occurred,
+/// Opens the registry on `disk`, and runs the script that is in the input. If the disk is refused,
+/// writes the line of the refusal, and reads nothing. Returns the greatest status of the script,
 /// and the disk.
 pub fn run_disk_script<D: Disk, I: Read, O: Write>(
     alloc: Global,
@@ -74,7 +75,7 @@ pub fn run_disk_script<D: Disk, I: Read, O: Write>(
     }
 }
 
-/// Carries out `script DISK`: the script is in the input, and the answers go to the output.
+/// Carries out `script DISK`: runs the script in the input, and writes the answers to the output.
 #[tactic(auto, using(crate::proofs::Statuses::away_script))]
 pub(crate) fn script<R: Files<File = File> + Clock, I: Read, O: Write, E: Write>(
     rt: &R,

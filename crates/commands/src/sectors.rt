@@ -36,8 +36,8 @@ fn number_of(word: &str) -> Option<u32>
     }
 }
 
-/// Returns the number that SECTORS encodes. If SECTORS isn't 1 to 7 decimal digits with a value
-/// from 8 to 4,194,304, returns `None`.
+/// Returns the number for SECTORS, or `None` unless SECTORS is 1 to 7 decimal digits with a value
+/// from 8 to 4,194,304.
 pub(crate) fn parse_sectors(word: &str) -> Option<u32>
     ensures { result ≡ sectors_of word.now }
 {

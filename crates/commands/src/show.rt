@@ -1,4 +1,4 @@
-// Shows the image of a program.
+// Writes the image of a program.
 
 ghost use Rattle.std.specs.Prelude.{◌≡◌, IfOk, IfErr};
 ghost use Rattle.commands.specs.RunImage.{Shows};
@@ -10,7 +10,7 @@ use std::alloc::Global;
 use std::io::Write;
 use store::StoreRefusal;
 
-/// The kind of text that was shown.
+/// The kind of text that was written.
 #[derive(Clone, Copy, PartialEq, Eq)]
 pub enum Shown {
     /// The image.
@@ -22,7 +22,7 @@ pub enum Shown {
 }
 
 /// Binds a program without libraries at `base`, and writes the text of its image, or of the
-/// refusal. After a fault it is unspecified what the writer holds.
+/// refusal. After a fault, the writer's contents are unspecified.
 pub fn run_image<W: Write>(
     alloc: Global,
     program: &[u8],

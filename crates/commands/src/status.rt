@@ -20,7 +20,7 @@ pub(crate) fn greatest(status: Status, other: Status) -> Status
     }
 }
 
-/// Returns the status after an image was shown.
+/// Returns the status after an image was written.
 pub(crate) fn status_of(shown: Result<Shown, ScriptFault>) -> Status
     ensures { result ≡ status_of shown }
 {

@@ -11,10 +11,10 @@ use sector_disk::Disk;
 /// A type that carries out events: a registry on a disk with its binders, or any other type that
 /// defines its own `step`.
 pub trait TakesEvents {
-    /// Whether an event may be answered with this reply and change the first value to the second.
+    /// An event may be answered with this reply, and change the first value into the second.
     ghost step: { Self → Happening → EventReply → Self → Type 0 };
 
-    /// Carries out `event`, and returns its one reply.
+    /// Carries out `event`, and returns its reply.
     fn happen(&mut self, event: &Event<'_>) -> EventReply
         ensures step { step self.old (happening_of event.now) result self.new };
 }

@@ -1,4 +1,4 @@
-// A registry with binders, for which the greatest status of the replies is kept.
+// A registry with binders, and the greatest status of its replies.
 
 ghost use Rattle.std.specs.Prelude.{◌≢◌};
 ghost use Rattle.program_parts.specs.declared.status.Status.TheVariants.{BadWords};

@@ -20,7 +20,7 @@ use std::rt::{Clock, Files};
 pub(crate) enum WithFile {
     /// Installs a library.
     Install,
-    /// Replaces the library with the same name.
+    /// Replaces the library that has the same name as the file.
     Replace,
     /// Binds a program.
     Bind {

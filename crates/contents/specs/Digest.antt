@@ -2,8 +2,8 @@
 use Rattle.std.specs.Prelude.{◌≡◌, ℕ, List, Option, Some, None}
 use Rattle.sha2.specs.Sha256.{sha256}
 
--- The digest is the SHA-256 of the bytes. If there is no digest, because a read failed, this holds for
--- any bytes.
+-- The digest is the SHA-256 of the bytes. If there is no digest, because a read failed, the bytes
+-- may be any bytes.
 abbrev pub IsDigest : List ℕ → Option (List ℕ) → Type 0
 IsDigest bytes (Some digest) = digest ≡ sha256 bytes
 IsDigest bytes None = Unit {0}

@@ -11,27 +11,27 @@ use Rattle.requests.specs.Library.{IsLibrary, library_refusal}
 use Rattle.contents.specs.declared.finding.Finding.{Finding}
 use Rattle.contents.specs.declared.finding.Finding.TheVariants.{Sound, Refused, OtherName, Unreadable}
 
--- The finding is true of the library. Unreadable states nothing about the library, because a read
--- failed.
+-- The finding is true of the library. The finding Unreadable states nothing about the library,
+-- because a read failed.
 abbrev pub IsFinding : Library → Finding → Type 0
 IsFinding l Sound = IsLibrary l
 IsFinding l (Refused refusal) = library_refusal l.bytes ≡ Some refusal
 IsFinding l OtherName = (library_refusal l.bytes ≡ None) × (soname l.bytes ≢ Some l.name)
 IsFinding l Unreadable = Unit {0}
 
--- whether the finding is that the library can't be read
+-- the finding is that the library can't be read
 abbrev pub is_unreadable : Finding → Bool
 is_unreadable Unreadable = true
 is_unreadable other = false
 
--- Memory was refused at the library at position `k`: either for its bytes, before any of its sectors was
+-- Memory was refused for the library at position `k`: for its bytes, before any of its sectors was
 -- read, or for a test that allocates.
 abbrev pub StopsAt : (old new : DiskFacts) → List PlacedEntry → State → (k : ℕ) → Type 0
 StopsAt old new entries s k =
     AreCallsAtMost (sum_by file_sectors (take k entries)) old new
     ⊎ (ReadNeedsMemory (slice_index_or s.libraries k no_library).bytes × AreCallsAtMost (sum_by file_sectors (take (k + 1) entries)) old new)
 
--- a check of the libraries with these entries ended early, because memory was refused before any call of
--- the disk, or at one of the libraries
+-- a check of the libraries with these entries ended early: memory was refused before any call of
+-- the disk, or for one of the libraries
 abbrev pub LacksMemory : (old new : DiskFacts) → List PlacedEntry → State → Type 0
 LacksMemory old new entries s = AreCallsExactly 0 old new ⊎ ((k : ℕ) × (k < length s.libraries) × StopsAt old new entries s k)

@@ -23,7 +23,7 @@ use std::alloc::{AllocError, Global};
 pub fn finding_of(alloc: Global, name: &[u8], file: &[u8]) -> Result<Finding, AllocError>
     ensures finding { IfOk result (IsFinding (record { name = name.now; bytes = file.now })) }
     ensures read { IfOk result (λ finding. finding ≢ Finding.Unreadable) }
-    // The call fails only if no test of the object refuses the file and admission may need memory.
+    // The call fails only if all tests of the object accept the file and admission may need memory.
     ensures memory { OnErr result (ReadNeedsMemory file.now) }
 {
     match library_name(alloc, file) {
@@ -68,9 +68,9 @@ impl<D: Disk> Contents<D> {
     }
 
     /// Returns a finding for each library, in the order of the libraries. If a library is damaged
-    /// or can't be read, its finding reports this, and the next library is tested. Frees the bytes
-    /// of each library before it reads the next one, and reads each sector once. Ends early only if
-    /// memory is refused.
+    /// or can't be read, its finding states this, and the check continues with the next library.
+    /// Frees the bytes of each library before it reads the next one, and reads each sector once.
+    /// Ends early only if memory is refused.
     pub fn check(&mut self, alloc: Global) -> Result<Vec<Finding>, AllocError>
         ensures read { IsRead D.facts self.old self.new }
         ensures all { IfOk result (λ findings.

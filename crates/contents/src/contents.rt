@@ -4,8 +4,8 @@ use std::marker::Model;
 use store::Store;
 
 /// The contents of a disk of version 2. Names, lengths and the places of files are in memory, but
-/// no bytes of files. In contracts, this value is the store that keeps the contents. Nobody changes
-/// this store, and nobody holds its byte strings.
+/// no bytes of files. In contracts, the value is the store with these contents. The store isn't
+/// changed, and none of its byte strings is held.
 pub struct Contents<D: Disk> {
     pub(crate) store: Store<D>,
 }
@@ -24,7 +24,7 @@ impl<D: Disk> Model for Contents<D> {
 impl<D: Disk> Contents<D> {
     ghost use Rattle.std.specs.Prelude.{◌≡◌};
 
-    /// Returns the store, which reports names, lengths and preloads.
+    /// Returns the store, which has the names, lengths and preloads.
     pub fn store(&self) -> &Store<D>
         ensures { result.now ≡ self.now }
     {

@@ -19,8 +19,8 @@ use sha2::{Digest, Sha256};
 use std::alloc::{AllocError, Global};
 
 impl<D: Disk> Contents<D> {
-    /// Returns the SHA-256 of the bytes of the library at `position`, or `None` if they can't be
-    /// read. Reads each sector of the bytes once. Fails only if memory is refused.
+    /// Returns the SHA-256 of the bytes of the library at `position`, or `None` if the bytes can't
+    /// be read. Reads each of their sectors once. Fails only if memory is refused.
     pub fn digest_at(
         &mut self,
         alloc: Global,
@@ -48,10 +48,10 @@ impl<D: Disk> Contents<D> {
         }
     }
 
-    /// Returns the SHA-256 of the bytes of each library, in the order of the libraries. For a
-    /// library that can't be read, returns `None` instead. Doesn't test whether the files are still
-    /// libraries. Frees the bytes of each library before it reads the next one, and reads each
-    /// sector once. Ends early only if memory is refused.
+    /// Returns the SHA-256 of the bytes of each library, in the order of the libraries, or `None`
+    /// for a library that can't be read. Doesn't test whether the files are still libraries. Frees
+    /// the bytes of each library before it reads the next one, and reads each sector once. Ends
+    /// early only if memory is refused.
     pub fn digests(&mut self, alloc: Global) -> Result<Vec<Option<[u8; 32]>>, AllocError>
         ensures read { IsRead D.facts self.old self.new }
         ensures all { IfOk result (λ digests.
@@ -81,7 +81,7 @@ impl<D: Disk> Contents<D> {
     pub fn digest(&mut self, alloc: Global, name: &[u8]) -> Result<[u8; 32], Unread>
         ensures read { IsRead D.facts self.old self.new }
 
-        // The digest is that of this library's bytes, and the library has no other bytes.
+        // The digest is that of the library's bytes. The library has no other bytes.
         ensures ok { (s : State) → IsAt D.facts self.old s → IfOk result (λ digest.
             (bytes : List ℕ) × HasFile s name.now bytes × (digest ≡ sha256 bytes)) }
         ensures only { (s : State) → IsAt D.facts self.old s
@@ -91,7 +91,7 @@ impl<D: Disk> Contents<D> {
             → (result ≡ Err Unread.NotInstalled)
             ↔ All (λ library. library.name ≢ name.now) s.libraries }
 
-        // These clauses hold on any disk.
+        // The clauses from here on hold on any disk, honest or not.
         ensures device { IfErr result (λ e. e ≡ Unread.Unreadable
             → (D.facts self.old.disk).failures < (D.facts self.new.disk).failures) }
         ensures untouched { IfErr result (λ e. e ≢ Unread.Unreadable → self.new ≡ self.old) }

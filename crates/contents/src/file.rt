@@ -50,7 +50,7 @@ impl<D: Disk> Contents<D> {
     pub fn file(&mut self, alloc: Global, name: &[u8]) -> Result<Vec<u8>, Unread>
         ensures read { IsRead D.facts self.old self.new }
 
-        // The bytes are those of this library, and the library has no other bytes.
+        // The bytes are those of the library with this name. It has no other bytes.
         ensures ok { (s : State) → IsAt D.facts self.old s
             → IfOk result (λ bytes. HasFile s name.now bytes.items) }
         ensures only { (s : State) → IsAt D.facts self.old s
@@ -60,7 +60,7 @@ impl<D: Disk> Contents<D> {
             → (result ≡ Err Unread.NotInstalled)
             ↔ All (λ library. library.name ≢ name.now) s.libraries }
 
-        // These clauses hold on any disk.
+        // The clauses from here on hold on any disk, honest or not.
         ensures device { IfErr result (λ e. e ≡ Unread.Unreadable
             → (D.facts self.old.disk).failures < (D.facts self.new.disk).failures) }
         ensures untouched { IfErr result (λ e. e ≢ Unread.Unreadable → self.new ≡ self.old) }

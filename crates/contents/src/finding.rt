@@ -8,8 +8,8 @@ use hash_check::FileRefusal;
 pub enum Finding {
     /// The file is a library with the name of its entry.
     Sound,
-    /// The file is damaged: a test refuses it as a library, and this is the refusal of the first
-    /// such test.
+    /// The file is damaged: a test refuses it as a library. The refusal is that of the first such
+    /// test.
     Refused(FileRefusal),
     /// The file is damaged: it is a library with another name.
     OtherName,

@@ -11,7 +11,7 @@ pub struct Info {
     pub version: Version,
     /// The number of sectors of the disk.
     pub sectors: u32,
-    /// The number of changes that were accepted since the disk was formatted.
+    /// The number of changes since the disk was formatted.
     pub generation: u64,
     /// The number of installed libraries, at most `MOST_LIBRARIES`.
     pub libraries: usize,
@@ -42,7 +42,8 @@ impl<D: Disk> Contents<D> {
         ensures runs { result.unused.runs ≡ length (unused_runs (layout_in_use self.now)) }
 
         // An install of a file with a new name is refused with S7, S8, S9 or S10 if and only if the
-        // file has more than `largest` bytes. `largest` is 0, or a length that a file may have.
+        // file has more than `largest` bytes. If `largest` isn't 0, it is a length that a file may
+        // have.
         ensures largest { (s : State) → IsAt D.facts self.now s
             → (file : List ℕ) → IsFileSize (length file)
             → (length file ≤ result.unused.largest)

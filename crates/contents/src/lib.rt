@@ -1,10 +1,10 @@
-//! The contents of a disk, and whether its libraries are sound. Roots, catalogues and entries are
-//! read, but a library's file is read only if it is asked for.
+//! The contents of a disk, and tests of its libraries. The call `open` reads roots, catalogues and
+//! entries, but no library's file.
 //!
 //! `Contents::open` opens a disk of version 2 only for reading. `file` returns a library's bytes,
 //! and `info` returns the numbers of the whole disk. `check` returns a finding for each library,
-//! and `digests` returns the SHA-256 of each library. A library that is damaged or can't be read
-//! doesn't prevent the other libraries from being read.
+//! and `digests` returns the SHA-256 of each library. All other libraries can be read even if one
+//! is damaged or can't be read.
 #![tactic(auto)]
 
 mod check;

@@ -15,7 +15,7 @@ word table i = number_at 4 table (WORD_SIZE * i)
 unfoldable pub hash_head_bytes : List ℕ → Option (List ℕ)
 hash_head_bytes file = bytes_at file (tag_value file DT_HASH) (WORD_SIZE * 2)
 
--- the first two words; no bytes if these words can't be read, and then the file is refused with BadRange
+-- the first two words; no bytes if the words can't be read (then the file is refused with BadRange)
 abbrev pub hash_head : List ℕ → List ℕ
 hash_head file = unwrap_or (hash_head_bytes file) []
 
@@ -31,15 +31,15 @@ chain_count file = word (hash_head file) 1
 unfoldable pub hash_bytes : List ℕ → Option (List ℕ)
 hash_bytes file = bytes_at file (tag_value file DT_HASH) (WORD_SIZE * (2 + (bucket_count file + chain_count file)))
 
--- the whole table; no bytes if the table can't be read, and then the file is refused with BadRange
+-- the whole table; no bytes if the table can't be read (then the file is refused with BadRange)
 unfoldable pub hash_table : List ℕ → List ℕ
 hash_table file = unwrap_or (hash_bytes file) []
 
--- the words of the buckets: the word of a bucket is the index of the first symbol of its chain
+-- the words of the buckets; each word is the index of the first symbol of the bucket's chain
 unfoldable pub buckets : List ℕ → List ℕ
 buckets file = map (word (hash_table file)) (range_with_len 2 (bucket_count file))
 
--- the chain words: the chain word of a symbol is the index of the next symbol of its chain, or 0 at the
--- end of the chain
+-- the chain words; each word is the index of the next symbol of the chain, or 0 at the end of the
+-- chain
 unfoldable pub chains : List ℕ → List ℕ
 chains file = map (word (hash_table file)) (range_with_len (2 + bucket_count file) (chain_count file))

@@ -1,4 +1,5 @@
--- A file is refused by the first test that applies. Each test is stated for the whole file.
+-- The refusal of a file is that of the first test that applies. Each test is stated for the whole
+-- file.
 use Rattle.std.specs.Prelude.{ℕ, List, [], ◌∷◌, ◌++◌, Option}
 use Rattle.std.specs.Option.{option_map}
 use Rattle.elf_file.specs.FirstOf.{◌when◌, first_of}

@@ -13,11 +13,11 @@ use Rattle.elf_dynamic.specs.Symbol.{symbols, tested_symbols}
 unfoldable pub string_bytes : List ℕ → Option (List ℕ)
 string_bytes file = bytes_at file (tag_value file DT_STRTAB) (tag_value file DT_STRSZ)
 
--- the string table; no bytes if it can't be read, and then the file is refused with BadRange
+-- the string table; no bytes if the table can't be read (then the file is refused with BadRange)
 unfoldable pub string_table : List ℕ → List ℕ
 string_table file = unwrap_or (string_bytes file) []
 
--- the string at an offset of a table: the bytes up to the next zero byte
+-- the string at offset `offset` of a table: the bytes up to the next zero byte
 unfoldable pub string_at : List ℕ → ℕ → List ℕ
 string_at table offset = take_while (λ b. not (b == 0)) (drop offset table)
 
@@ -29,7 +29,7 @@ needed file = map (string_at (string_table file)) (needed_offsets file)
 unfoldable pub soname : List ℕ → Option (List ℕ)
 soname file = if is_present file DT_SONAME then Some (string_at (string_table file) (tag_value file DT_SONAME)) else None
 
--- the name of the symbol with index `i`; it is empty for index 0
+-- the name of the symbol with index `i`; the name of symbol 0 is empty
 unfoldable pub name_of : List ℕ → ℕ → List ℕ
 name_of file i = if i == 0 then [] else option_map_or (λ s. string_at (string_table file) s.name) (slice_get (symbols file) i) []
 

@@ -11,7 +11,7 @@ use Rattle.elf_dynamic.specs.Constant.{STV_DEFAULT, STV_INTERNAL, STV_HIDDEN, ST
 use Rattle.elf_dynamic.specs.HashTable.{chain_count}
 use Rattle.elf_dynamic.specs.declared.symbol.Symbol.{Symbol}
 
--- the symbol at an offset of a table
+-- the symbol at offset `at` of a table
 abbrev pub symbol_at : List ℕ → ℕ → Symbol
 symbol_at table at =
     record {
@@ -31,11 +31,12 @@ nth_symbol table i = symbol_at table (SYMBOL_SIZE * i)
 unfoldable pub symbols_in : List ℕ → List Symbol
 symbols_in table = map (nth_symbol table) (range_with_len 0 (length table / SYMBOL_SIZE))
 
--- the bytes of the symbol table, if they can be read; it has as many symbols as the hash table has chain words
+-- the bytes of the symbol table, if they can be read; there are as many symbols as chain words in
+-- the hash table
 unfoldable pub symbol_bytes : List ℕ → Option (List ℕ)
 symbol_bytes file = bytes_at file (tag_value file DT_SYMTAB) (SYMBOL_SIZE * chain_count file)
 
--- the symbol table; no bytes if it can't be read, and then the file is refused with BadRange
+-- the symbol table; no bytes if the table can't be read (then the file is refused with BadRange)
 unfoldable pub symbol_table : List ℕ → List ℕ
 symbol_table file = unwrap_or (symbol_bytes file) []
 
@@ -75,27 +76,27 @@ is_weak s = binding_of s == STB_WEAK
 abbrev pub is_defined : Symbol → Bool
 is_defined s = not (s.section == SHN_UNDEF)
 
--- the symbol's value isn't an address: the base isn't added
+-- the symbol's value is absolute: no base is added to it
 abbrev pub is_absolute : Symbol → Bool
 is_absolute s = s.section == SHN_ABS
 
--- the symbol is a function, an object, or of no type
+-- the symbol is a function or an object, or has no type
 abbrev pub is_function_or_object : Symbol → Bool
 is_function_or_object s = (type_of s == STT_NOTYPE) || (type_of s == STT_OBJECT) || (type_of s == STT_FUNC)
 
--- the symbol's visibility lets other objects see the symbol and replace it
+-- other objects can see the symbol and replace it
 abbrev pub has_default_visibility : Symbol → Bool
 has_default_visibility s = visibility_of s == STV_DEFAULT
 
--- the symbol's visibility lets other objects see the symbol
+-- other objects can see the symbol
 abbrev pub is_visible : Symbol → Bool
 is_visible s = has_default_visibility s || (visibility_of s == STV_PROTECTED)
 
--- the symbol's visibility hides the symbol from other objects
+-- the symbol is hidden from other objects
 abbrev pub is_hidden : Symbol → Bool
 is_hidden s = (visibility_of s == STV_HIDDEN) || (visibility_of s == STV_INTERNAL)
 
--- the symbol's section or its type is that of a common symbol
+-- the symbol has the section or the type of a common symbol
 abbrev pub is_common : Symbol → Bool
 is_common s = (s.section == SHN_COMMON) || (type_of s == STT_COMMON)
 
@@ -119,10 +120,10 @@ is_ifunc s = type_of s == STT_GNU_IFUNC
 unfoldable pub has_ifunc_symbol : List ℕ → Bool
 has_ifunc_symbol file = list_any is_ifunc (tested_symbols file)
 
--- the symbol's binding is none of LOCAL, GLOBAL and WEAK
+-- the symbol's binding is neither LOCAL, GLOBAL nor WEAK
 abbrev pub is_badly_bound : Symbol → Bool
 is_badly_bound s = not (is_local s) && not (is_global s) && not (is_weak s)
 
--- E27: a symbol has a binding that is none of LOCAL, GLOBAL and WEAK
+-- E27: a symbol has a binding that is neither LOCAL, GLOBAL nor WEAK
 unfoldable pub has_bad_binding : List ℕ → Bool
 has_bad_binding file = list_any is_badly_bound (tested_symbols file)

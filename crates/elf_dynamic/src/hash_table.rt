@@ -11,7 +11,7 @@ use elf_file::{Dynamic, Tag, u32_at};
 /// The size of a word of the table, in bytes.
 const WORD_SIZE: u64 = 4;
 
-/// A hash table: its bytes, and its numbers of buckets and chain words.
+/// A hash table: its bytes, the number of buckets, and the number of chain words.
 #[derive(Clone, Copy)]
 pub(crate) struct HashTable<'a> {
     pub(crate) bytes: &'a [u8],
@@ -19,7 +19,7 @@ pub(crate) struct HashTable<'a> {
     pub(crate) chain_count: u32,
 }
 
-/// Returns word number `i` of a table.
+/// Returns word number `i` of `table`.
 #[tactic(auto, unfolding(crate::specs::HashTable::word))]
 pub(crate) fn word(table: &[u8], i: usize) -> u32
     requires { 4 * (i + 1) ≤ length table.now }

@@ -19,7 +19,8 @@ use crate::tables::Tables;
 use elf_file::{Dynamic, LoadSegments, ObjectAddresses, ObjectRefusal, ProgramHeader};
 use std::marker::Model;
 
-/// A shared object that no test refuses. In contracts, the value is the bytes of the object's file.
+/// A shared object that all tests accept. In contracts, the value is the bytes of the object's
+/// file.
 #[derive(Drop)]
 pub struct Object<'a> {
     tables: Tables<'a>,
@@ -53,7 +54,7 @@ impl<'a> Object<'a> {
         Ok(Object { tables })
     }
 
-    /// Makes the view of a file that no test refuses. Repeats only the test of the ranges of the
+    /// Makes the view of a file that all tests accept. Repeats only the test of the ranges of the
     /// tables (E22), because this test finds the tables. Makes a few passes over the program
     /// headers, and one over the dynamic section.
     #[tactic(auto, using(crate::proofs::Accepted::accepted_parts))]
@@ -74,15 +75,15 @@ impl<'a> Object<'a> {
     pub fn segment_count(&self) -> usize
         ensures count { result ≡ length (loads self.now) }
 
-        // No test refuses the file of an object.
+        // All tests accept an object's file.
         ensures accepted { first_refusal self.now ≡ None }
     {
         self.tables.segments().count()
     }
 
-    /// Returns PT_LOAD number `i`, in the order of the program headers, which is also the order of
-    /// the PT_LOADs' addresses. Makes one pass over the program headers up to this PT_LOAD. For a
-    /// caller that needs all PT_LOADs, `segments` makes only one pass.
+    /// Returns PT_LOAD number `i`. The PT_LOADs are in the order of the program headers, which is
+    /// also the order of their addresses. Makes one pass over the program headers up to this
+    /// PT_LOAD. If you need all PT_LOADs, call `segments`, which makes only one pass.
     pub fn segment(&self, i: usize) -> ProgramHeader
         requires { i < length (loads self.now) }
         ensures segment { slice_get (loads self.now) i ≡ Some result }
@@ -91,8 +92,8 @@ impl<'a> Object<'a> {
         self.tables.segments().nth(i)
     }
 
-    /// Returns the PT_LOADs, in the order of the program headers. Going through the PT_LOADs makes
-    /// one pass over the program headers.
+    /// Returns the PT_LOADs, in the order of the program headers. Reading all PT_LOADs makes one
+    /// pass over the program headers.
     pub fn segments(&self) -> LoadSegments<'a>
         ensures segments { result ≡ loads self.now }
         ensures accepted { first_refusal self.now ≡ None }
@@ -102,7 +103,7 @@ impl<'a> Object<'a> {
 
     /// Returns the bytes of the file that are loaded to the beginning of PT_LOAD number `i`:
     /// `p_filesz` bytes from `p_offset`. Makes one pass over the program headers up to this
-    /// PT_LOAD. A caller that needs the bytes of all PT_LOADs passes each PT_LOAD of `segments` to
+    /// PT_LOAD. If you need the bytes of all PT_LOADs, pass each PT_LOAD of `segments` to
     /// `contents_of`.
     pub fn contents(&self, i: usize) -> &'a [u8]
         requires { i < length (loads self.now) }
@@ -118,7 +119,7 @@ impl<'a> Object<'a> {
     }
 
     /// Returns the bytes of the file that are loaded to the beginning of a PT_LOAD. For any other
-    /// program header, returns as many of its bytes as the file has. Takes constant time.
+    /// program header, returns those of its bytes that the file has. Takes constant time.
     pub fn contents_of(&self, segment: ProgramHeader) -> &'a [u8]
         ensures contents { result.now ≡ contents self.now segment }
         ensures accepted { first_refusal self.now ≡ None }
@@ -130,7 +131,7 @@ impl<'a> Object<'a> {
         &file[start as usize..(start + size) as usize]
     }
 
-    /// Returns the addresses of the program headers and of the dynamic section, and the entry.
+    /// Returns the addresses of the program headers, of the dynamic section, and of the entry.
     /// Makes three passes over the program headers.
     pub fn addresses(&self) -> ObjectAddresses
         ensures { result ≡ addresses_of self.now }
@@ -165,8 +166,8 @@ impl<'a> Object<'a> {
     }
 
     /// Returns the name of needed library number `i`, in the order of the dynamic section. Makes
-    /// one pass over this section up to the library's entry. For a caller that needs all names,
-    /// `needed_names` makes only one pass.
+    /// one pass over this section up to the library's entry. If you need all names, call
+    /// `needed_names`, which makes only one pass.
     pub fn needed(&self, i: usize) -> &'a [u8]
         requires { i < length (needed self.now) }
         ensures name { slice_get (needed self.now) i ≡ Some result.now }
@@ -175,8 +176,8 @@ impl<'a> Object<'a> {
         self.tables.needed(i)
     }
 
-    /// Returns the names of the needed libraries, in the order of the dynamic section. Going
-    /// through the names makes one pass over this section.
+    /// Returns the names of the needed libraries, in the order of the dynamic section. Reading all
+    /// names makes one pass over this section.
     pub fn needed_names(&self) -> NeededNames<'a>
         ensures names { result ≡ needed self.now }
         ensures accepted { first_refusal self.now ≡ None }
@@ -193,9 +194,9 @@ impl<'a> Object<'a> {
         self.tables.soname()
     }
 
-    /// Returns whether the symbols to which the object itself refers are looked up in the object
-    /// first: `DT_SYMBOLIC` is present, or `DT_FLAGS` with `DF_SYMBOLIC` (gABI chapter 5). Takes
-    /// constant time.
+    /// Returns whether a lookup of a symbol to which the object refers begins with the object
+    /// itself: `DT_SYMBOLIC` is present, or `DT_FLAGS` has the bit `DF_SYMBOLIC` (gABI chapter 5).
+    /// Takes constant time.
     pub fn symbolic(&self) -> bool
         ensures symbolic { result ≡ is_symbolic self.now }
         ensures accepted { first_refusal self.now ≡ None }
@@ -212,7 +213,8 @@ impl<'a> Object<'a> {
         self.tables.string_table()
     }
 
-    /// The number of symbols, including the one with index 0. It is also the number of chain words.
+    /// The number of symbols, including the symbol with index 0. It is also the number of chain
+    /// words.
     pub fn symbol_count(&self) -> u32
         ensures count { result ≡ length (symbols self.now) }
         ensures chains { result ≡ length (chains self.now) }
@@ -230,7 +232,7 @@ impl<'a> Object<'a> {
         self.tables.symbol(i)
     }
 
-    /// Returns the name of the symbol with index `i`. The name is empty for index 0. Searches for
+    /// Returns the name of the symbol with index `i`. The name of symbol 0 is empty. Searches for
     /// the name's end, so the time is proportional to the name's length.
     pub fn name_of(&self, i: u32) -> &'a [u8]
         requires { i < length (symbols self.now) }
@@ -248,7 +250,7 @@ impl<'a> Object<'a> {
         self.tables.bucket_count()
     }
 
-    /// Returns the word of bucket `i`: the index of the first symbol of its chain.
+    /// Returns the word of bucket `i`: the index of the first symbol of the bucket's chain.
     pub fn bucket(&self, i: u32) -> u32
         requires { i < length (buckets self.now) }
         ensures word { slice_get (buckets self.now) i ≡ Some result }
@@ -257,8 +259,8 @@ impl<'a> Object<'a> {
         self.tables.bucket(i)
     }
 
-    /// Returns the chain word of symbol `i`: the index of the next symbol of its chain, or 0 at the
-    /// end.
+    /// Returns the chain word of symbol `i`: the index of the next symbol of its chain, or 0 if
+    /// symbol `i` is the last one.
     pub fn chain(&self, i: u32) -> u32
         requires { i < length (chains self.now) }
         ensures word { slice_get (chains self.now) i ≡ Some result }

@@ -13,9 +13,9 @@ ghost use Rattle.elf_dynamic.specs.inside.Tables.{HasParts, soname_offset};
 use crate::hash_table::HashTable;
 use elf_file::{Dynamic, SYMBOL_SIZE, Tag};
 
-/// The tables of a file, which are parts of its bytes, and three more values: the number of needed
-/// libraries; the offset of the object's own name in the string table, if it has a name; and
-/// whether the object is symbolic.
+/// The tables of a file, as parts of its bytes, with the number of needed libraries, the offset of
+/// the object's own name in the string table (if the object has a name), and whether the object is
+/// symbolic.
 #[derive(Clone, Copy)]
 pub(crate) struct Parts<'a> {
     pub(crate) strings: &'a [u8],
@@ -41,7 +41,7 @@ fn string_table<'a>(dynamic: &Dynamic<'a>) -> Option<&'a [u8]>
     )
 }
 
-/// Returns the table of `count` symbols, if it can be read.
+/// Returns the symbol table, which has `count` symbols, if the table can be read.
 #[tactic(auto, unfolding(crate::specs::Symbol::symbol_bytes))]
 fn symbol_table<'a>(dynamic: &Dynamic<'a>, count: u32) -> Option<&'a [u8]>
     requires { count ≡ chain_count dynamic.now }

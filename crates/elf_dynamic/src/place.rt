@@ -13,8 +13,8 @@ use elf_file::{IndexedSegments, ProgramHeader, is_in_memory_part};
 const WRITTEN: u64 = 8;
 
 /// Returns whether a relocation writes bytes that don't lie in the memory of one PT_LOAD. `last` is
-/// the PT_LOAD to which the most recent writing relocation of the table writes, if there is one.
-/// Tries this PT_LOAD first, and then the index of all PT_LOADs.
+/// the PT_LOAD to which the previous writing relocation of the table writes, if there was one.
+/// Looks in this PT_LOAD first, and then in the index of all PT_LOADs.
 #[tactic(auto, using(crate::proofs::Misplaced::of_one))]
 fn is_misplaced(
     segments: &IndexedSegments<'_>,

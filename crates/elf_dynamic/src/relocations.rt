@@ -62,7 +62,7 @@ impl<'a> Tables<'a> {
         }
     }
 
-    /// Returns whether a relocation uses a symbol that doesn't exist.
+    /// Returns whether a relocation uses a symbol that the file doesn't have.
     fn has_bad_relocation_symbol(&self) -> bool
         ensures { result ≡ has_bad_relocation_symbol self.now }
     {

@@ -16,8 +16,8 @@ fn string_length(bytes: &[u8]) -> usize
     memchr(0, bytes).unwrap_or(bytes.len())
 }
 
-/// Returns the string at an offset of a table: the bytes up to the next zero byte. The time is
-/// proportional to the string's length.
+/// Returns the string at offset `offset` of `table`: the bytes up to the next zero byte. The time
+/// is proportional to the string's length.
 #[tactic(auto, using(crate::proofs::StringEnds::ends), unfolding(crate::specs::Strings::string_at))]
 pub(crate) fn string_at(table: &[u8], offset: usize) -> &[u8]
     ensures { result.now ≡ string_at table.now offset }
@@ -26,8 +26,8 @@ pub(crate) fn string_at(table: &[u8], offset: usize) -> &[u8]
     &rest[..string_length(rest)]
 }
 
-/// The names of the needed libraries that haven't been read yet, in the order of the `DT_NEEDED`
-/// entries. In contracts, the value is the list of these names.
+/// An iterator over the names of the needed libraries, in the order of the `DT_NEEDED` entries. In
+/// contracts, the value is the list of the names that haven't been read yet.
 #[derive(Drop)]
 pub struct NeededNames<'a> {
     strings: &'a [u8],
@@ -44,7 +44,7 @@ impl<'a> Model for NeededNames<'a> {
 }
 
 impl<'a> NeededNames<'a> {
-    /// Returns the names at the offsets `offsets` of a string table.
+    /// Returns the names at the offsets `offsets` of the string table `strings`.
     pub(crate) fn new(strings: &'a [u8], offsets: NeededOffsets<'a>) -> NeededNames<'a>
         ensures { result ≡ map (string_at strings.now) offsets.entry }
     {

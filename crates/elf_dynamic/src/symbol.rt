@@ -81,15 +81,14 @@ impl Symbol {
         self.section != SHN_UNDEF
     }
 
-    /// Returns whether the symbol's value isn't an address, so that the base isn't added
-    /// (`SHN_ABS`).
+    /// Returns whether the symbol's value is absolute: no base is added to it (`SHN_ABS`).
     pub fn is_absolute(self) -> bool
         ensures { result ≡ is_absolute self }
     {
         self.section == SHN_ABS
     }
 
-    /// Returns whether the symbol is a function, an object, or of no type.
+    /// Returns whether the symbol is a function or an object, or has no type.
     pub fn is_function_or_object(self) -> bool
         ensures { result ≡ is_function_or_object self }
     {
@@ -97,24 +96,21 @@ impl Symbol {
         kind == STT_NOTYPE || kind == STT_OBJECT || kind == STT_FUNC
     }
 
-    /// Returns whether the symbol's visibility lets other objects see the symbol and replace it
-    /// (`STV_DEFAULT`).
+    /// Returns whether other objects can see the symbol and replace it (`STV_DEFAULT`).
     pub fn has_default_visibility(self) -> bool
         ensures { result ≡ has_default_visibility self }
     {
         self.visibility() == STV_DEFAULT
     }
 
-    /// Returns whether the symbol's visibility lets other objects see the symbol (`STV_DEFAULT`,
-    /// `STV_PROTECTED`).
+    /// Returns whether other objects can see the symbol (`STV_DEFAULT`, `STV_PROTECTED`).
     pub fn is_visible(self) -> bool
         ensures { result ≡ is_visible self }
     {
         self.has_default_visibility() || self.visibility() == STV_PROTECTED
     }
 
-    /// Returns whether the symbol's visibility hides the symbol from other objects (`STV_HIDDEN`,
-    /// `STV_INTERNAL`).
+    /// Returns whether the symbol is hidden from other objects (`STV_HIDDEN`, `STV_INTERNAL`).
     pub fn is_hidden(self) -> bool
         ensures { result ≡ is_hidden self }
     {
@@ -143,8 +139,8 @@ const STT_TLS: u8 = 6;
 const STT_GNU_IFUNC: u8 = 10;
 /// The visibility of a symbol that other objects can see and replace.
 const STV_DEFAULT: u8 = 0;
-/// The visibility of a symbol that other objects can't see, and whose address they don't get
-/// either.
+/// The visibility of a symbol that other objects can't see, and whose address they can't get in any
+/// other way.
 const STV_INTERNAL: u8 = 1;
 /// The visibility of a symbol that other objects can't see.
 const STV_HIDDEN: u8 = 2;
@@ -157,7 +153,7 @@ const SHN_ABS: u16 = 0xfff1;
 /// The section index of a common block.
 const SHN_COMMON: u16 = 0xfff2;
 
-/// Returns symbol number `i` of a table.
+/// Returns symbol number `i` of `table`.
 #[tactic(auto, unfolding(crate::specs::Symbol::nth_symbol))]
 pub(crate) fn nth_symbol(table: &[u8], i: usize) -> Symbol
     requires { i < length table.now / 24 }
@@ -198,7 +194,7 @@ fn is_badly_bound(symbol: Symbol) -> bool
     !symbol.is_local() && !symbol.is_global() && !symbol.is_weak()
 }
 
-/// Returns whether one of the tests E24 to E27 refuses a symbol.
+/// Returns whether one of the tests E24 to E27 refuses `symbol`.
 #[tactic(auto, unfolding(crate::specs::inside::Symbols::is_refused))]
 fn is_refused(symbol: Symbol) -> bool
     ensures { result ≡ is_refused symbol }
@@ -206,45 +202,45 @@ fn is_refused(symbol: Symbol) -> bool
     is_common(symbol) || is_tls(symbol) || is_ifunc(symbol) || is_badly_bound(symbol)
 }
 
-/// Returns whether one of the tests E24 to E27 refuses a symbol of a table, except the first
-/// symbol. Makes one pass over the symbols instead of four.
+/// Returns whether one of the tests E24 to E27 refuses a symbol in `table`, except the first
+/// symbol. Makes one pass over the symbols, instead of one pass for each test.
 pub(crate) fn has_refused_in(table: &[u8]) -> bool
     ensures { result ≡ list_any is_refused (drop 1 (symbols_in table.now)) }
 {
     (1..table.len() / SYMBOL_SIZE as usize).any(|i| is_refused(nth_symbol(table, i)))
 }
 
-/// Returns whether a symbol of a table, except the first, is a common symbol.
+/// Returns whether `table` has a common symbol, except the first symbol.
 pub(crate) fn has_common_in(table: &[u8]) -> bool
     ensures { result ≡ list_any is_common (drop 1 (symbols_in table.now)) }
 {
     (1..table.len() / SYMBOL_SIZE as usize).any(|i| is_common(nth_symbol(table, i)))
 }
 
-/// Returns whether a symbol of a table, except the first, is thread-local.
+/// Returns whether `table` has a thread-local symbol, except the first symbol.
 pub(crate) fn has_tls_in(table: &[u8]) -> bool
     ensures { result ≡ list_any is_tls (drop 1 (symbols_in table.now)) }
 {
     (1..table.len() / SYMBOL_SIZE as usize).any(|i| is_tls(nth_symbol(table, i)))
 }
 
-/// Returns whether a symbol of a table, except the first, is an indirect function.
+/// Returns whether `table` has an indirect function, except the first symbol.
 pub(crate) fn has_ifunc_in(table: &[u8]) -> bool
     ensures { result ≡ list_any is_ifunc (drop 1 (symbols_in table.now)) }
 {
     (1..table.len() / SYMBOL_SIZE as usize).any(|i| is_ifunc(nth_symbol(table, i)))
 }
 
-/// Returns whether a symbol of a table, except the first, has a binding other than local, global
-/// and weak.
+/// Returns whether `table` has a symbol, except the first one, whose binding is neither local,
+/// global nor weak.
 pub(crate) fn has_badly_bound_in(table: &[u8]) -> bool
     ensures { result ≡ list_any is_badly_bound (drop 1 (symbols_in table.now)) }
 {
     (1..table.len() / SYMBOL_SIZE as usize).any(|i| is_badly_bound(nth_symbol(table, i)))
 }
 
-/// Returns whether the name of a symbol of a table, except the first, has an offset at or above
-/// `limit`.
+/// Returns whether `table` has a symbol, except the first one, whose name has an offset of `limit`
+/// or more.
 pub(crate) fn has_name_from(table: &[u8], limit: u64) -> bool
     ensures { result ≡ list_any (λ s. nat_le limit s.name) (drop 1 (symbols_in table.now)) }
 {

@@ -16,8 +16,8 @@ use crate::tables::Tables;
 use elf_file::ObjectRefusal;
 
 impl<'a> Tables<'a> {
-    /// Tests the symbols: E24 to E27. Makes the four tests separately only if a symbol fails one of
-    /// the tests.
+    /// Tests the symbols: E24 to E27. First makes one pass for all four tests. Makes the tests one
+    /// after the other only if a symbol fails this pass.
     #[tactic(auto, using(crate::proofs::NoneRefused::none_refused))]
     pub(crate) fn test_symbols(&self) -> Result<(), ObjectRefusal>
         ensures { MatchResult result (λ _. symbol_refusal self.now ≡ None)
@@ -42,7 +42,7 @@ impl<'a> Tables<'a> {
         Ok(())
     }
 
-    /// The number of symbols, including the one with index 0.
+    /// The number of symbols, including the symbol with index 0.
     #[tactic(auto, using(crate::proofs::SymbolNumbers::symbols_counted))]
     pub(crate) fn symbol_count(&self) -> u32
         ensures count { result ≡ length (symbols self.now) }
@@ -61,7 +61,7 @@ impl<'a> Tables<'a> {
         nth_symbol(self.parts().symbols, i as usize)
     }
 
-    /// Returns the name of the symbol with index `i`. The name is empty for index 0.
+    /// Returns the name of the symbol with index `i`. The name of symbol 0 is empty.
     #[tactic(auto, unfolding(crate::specs::Strings::name_of))]
     pub(crate) fn name_of(&self, i: u32) -> &'a [u8]
         requires { i < length (symbols self.now) }
@@ -81,7 +81,7 @@ impl<'a> Tables<'a> {
         self.parts().hash.bucket_count
     }
 
-    /// Returns the word of bucket `i`: the index of the first symbol of its chain.
+    /// Returns the word of bucket `i`: the index of the first symbol of the bucket's chain.
     #[tactic(auto, using(crate::proofs::SymbolNumbers::bucket_numbered))]
     pub(crate) fn bucket(&self, i: u32) -> u32
         requires { i < length (buckets self.now) }
@@ -90,8 +90,8 @@ impl<'a> Tables<'a> {
         word(self.parts().hash.bytes, 2 + i as usize)
     }
 
-    /// Returns the chain word of symbol `i`: the index of the next symbol of its chain, or 0 at the
-    /// end.
+    /// Returns the chain word of symbol `i`: the index of the next symbol of its chain, or 0 if
+    /// symbol `i` is the last one.
     #[tactic(auto, using(crate::proofs::SymbolNumbers::chain_numbered))]
     pub(crate) fn chain(&self, i: u32) -> u32
         requires { i < length (chains self.now) }

@@ -13,15 +13,15 @@ use crate::symbol::has_name_from;
 use elf_file::{Dynamic, NeededOffsets, ObjectRefusal, Segments};
 use std::marker::Model;
 
-/// Returns whether one of the offsets is at or above `limit`.
+/// Returns whether one of `offsets` is `limit` or more.
 fn has_offset_from(mut offsets: NeededOffsets<'_>, limit: u64) -> bool
     ensures { result ≡ list_any (nat_le limit) offsets.entry }
 {
     offsets.any(|offset| offset >= limit)
 }
 
-/// The tables of a file that none of the tests E1 to E22 refuses. If `read` made this value, E23
-/// doesn't refuse the file either. In contracts, the value is the file's bytes.
+/// The tables of a file that the tests E1 to E22 accept. A value that `read` returned has also
+/// passed E23. In contracts, the value is the file's bytes.
 #[derive(Drop)]
 pub(crate) struct Tables<'a> {
     segments: Segments<'a>,
@@ -41,7 +41,7 @@ impl<'a> Model for Tables<'a> {
 }
 
 impl<'a> Tables<'a> {
-    /// Makes the view of a file from its tables, which have already been found.
+    /// Makes the view of a file from its tables `parts`.
     pub(crate) fn new(dynamic: &Dynamic<'a>, parts: Parts<'a>) -> Tables<'a>
         requires { HasParts dynamic.now parts }
         ensures { result ≡ dynamic.now }

@@ -26,7 +26,8 @@ bytes_of file address size h = take size (drop (h.offset + (address - h.address)
 unfoldable pub find_file_part : List ℕ → ℕ → ℕ → Option ProgramHeader
 find_file_part file address size = find (is_in_file_part address size) (loads file)
 
--- the `size` bytes at `address`, if the file part of one PT_LOAD has them; for a size of 0, no bytes at any address
+-- the `size` bytes at `address`, if the file part of one PT_LOAD has them; if `size` is 0, no
+-- bytes, at any address
 unfoldable pub bytes_at : List ℕ → ℕ → ℕ → Option (List ℕ)
 bytes_at file address size = if size == 0 then Some [] else option_map (bytes_of file address size) (find_file_part file address size)
 

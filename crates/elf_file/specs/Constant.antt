@@ -33,7 +33,7 @@ ET_DYN = 3
 abbrev pub EM_X86_64 : ℕ
 EM_X86_64 = 62
 
--- e_phnum if the number of program headers is recorded elsewhere
+-- the value of e_phnum if the file has the number of program headers elsewhere
 abbrev pub PN_XNUM : ℕ
 PN_XNUM = 0xffff
 
@@ -131,7 +131,7 @@ DT_VERDEF = 0x6ffffffc
 abbrev pub DT_VERNEED : ℕ
 DT_VERNEED = 0x6ffffffe
 
--- the bit of DT_FLAGS by which the object's own references are looked up in the object first
+-- the bit of DT_FLAGS of an object for which lookups of symbols begin with the object itself
 abbrev pub DF_SYMBOLIC : ℕ
 DF_SYMBOLIC = 0x2
 

@@ -35,7 +35,7 @@ has_dynamic file = (dynamic_count file == 1) && option_map_or (is_whole file) (f
 unfoldable pub dynamic_section : List ℕ → List ℕ
 dynamic_section file = option_map_or (contents file) (find_dynamic file) []
 
--- the entry at an offset of a section: a tag and a value
+-- the entry at offset `at` of a section: a tag and a value
 abbrev pub entry_at : List ℕ → ℕ → Entry
 entry_at section at = record { tag = number_at 8 section at; value = number_at 8 section (at + 8) }
 
@@ -71,7 +71,7 @@ entries file = entries_in (dynamic_section file)
 abbrev pub has_bad_dynamic : List ℕ → Bool
 has_bad_dynamic file = not (has_dynamic file) || not (is_ended (dynamic_section file))
 
--- how often a tag is present
+-- the number of entries with the tag `tag`
 unfoldable pub tag_count : List ℕ → ℕ → ℕ
 tag_count file tag = count_by (has_tag tag) (entries file)
 
@@ -83,8 +83,8 @@ find_entry file tag = find (has_tag tag) (entries file)
 abbrev pub is_present : List ℕ → ℕ → Bool
 is_present file tag = is_some (find_entry file tag)
 
--- the value of the first entry with a tag, or 0 if the tag is absent; in that case no test and no accessor reads the
--- value
+-- the value of the first entry with the tag, or 0 if the tag is absent; no test and no accessor
+-- reads the value of an absent tag
 unfoldable pub tag_value : List ℕ → ℕ → ℕ
 tag_value file tag = unwrap_or (option_map (λ e. e.value) (find_entry file tag)) 0
 
@@ -106,11 +106,12 @@ has_duplicate_tag file = list_any (λ tag. nat_lt 1 (tag_count file tag)) single
 abbrev pub has_symbol_versions : List ℕ → Bool
 has_symbol_versions file = is_present file DT_VERSYM || is_present file DT_VERDEF || is_present file DT_VERNEED
 
--- DT_FLAGS has the bit by which the object's own references are looked up in the object first, whatever its other bits are
+-- DT_FLAGS is present and has the bit DF_SYMBOLIC
 abbrev pub is_flagged_symbolic : List ℕ → Bool
 is_flagged_symbolic file = is_present file DT_FLAGS && not (bit_and (tag_value file DT_FLAGS) DF_SYMBOLIC == 0)
 
--- the object's own references are looked up in the object first: it has DT_SYMBOLIC, or DF_SYMBOLIC in DT_FLAGS
+-- a lookup of a symbol to which the object refers begins with the object itself: DT_SYMBOLIC is
+-- present, or DT_FLAGS has the bit DF_SYMBOLIC
 unfoldable pub is_symbolic : List ℕ → Bool
 is_symbolic file = is_present file DT_SYMBOLIC || is_flagged_symbolic file
 
@@ -122,12 +123,13 @@ has_unsupported_tag file = is_present file DT_REL || is_present file DT_RELR
 abbrev pub has_no_hash_table : List ℕ → Bool
 has_no_hash_table file = not (is_present file DT_HASH)
 
--- one of the tags of the strings or the symbols is absent
+-- a tag of the string table or of the symbol table is absent
 abbrev pub lacks_symbol_tag : List ℕ → Bool
 lacks_symbol_tag file =
     not (is_present file DT_STRTAB) || not (is_present file DT_SYMTAB) || not (is_present file DT_STRSZ) || not (is_present file DT_SYMENT)
 
--- E20: a tag of the strings or the symbols is missing, or a tag that a present table of relocations requires is missing
+-- E20: a tag of the string table or of the symbol table is absent, or a table of relocations is
+-- present and a tag that it requires is absent
 abbrev pub has_missing_tag : List ℕ → Bool
 has_missing_tag file =
     lacks_symbol_tag file

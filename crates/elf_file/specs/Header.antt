@@ -57,6 +57,6 @@ abbrev pub has_bad_program_headers : List ℕ → Bool
 has_bad_program_headers file =
     (header_count file == 0) || (header_count file == PN_XNUM) || nat_lt (length file) (headers_offset file + PROGRAM_HEADER_SIZE * header_count file)
 
--- the whole file header, and all program headers that it announces, are in the file
+-- the file has the whole file header, and all program headers that the file header counts
 abbrev pub HasHeaders : List ℕ → Type 0
 HasHeaders file = (FILE_HEADER_SIZE ≤ length file) × (headers_offset file + PROGRAM_HEADER_SIZE * header_count file ≤ length file)

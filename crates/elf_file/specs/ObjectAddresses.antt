@@ -13,7 +13,8 @@ use Rattle.elf_file.specs.declared.object_addresses.ObjectAddresses.{ObjectAddre
 abbrev pub has_file_bytes : ℕ → ℕ → ProgramHeader → Bool
 has_file_bytes offset size h = nat_le h.offset offset && nat_le (offset + size) (h.offset + h.file_size)
 
--- the address, before a base is added, at which the first PT_LOAD that has the `size` bytes of the file from `offset` loads them
+-- the address at which the first PT_LOAD that has the `size` bytes of the file from `offset` loads
+-- these bytes, before a base is added
 unfoldable pub address_of_bytes : List ℕ → ℕ → ℕ → Option ℕ
 address_of_bytes file offset size = option_map (λ h. h.address + (offset - h.offset)) (find (has_file_bytes offset size) (loads file))
 

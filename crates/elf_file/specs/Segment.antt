@@ -68,7 +68,7 @@ has_bad_load file = list_any (is_bad_load (length file)) (program_headers file)
 abbrev pub has_bad_segment : List ℕ → Bool
 has_bad_segment file = not (has_load file) || has_bad_load file
 
--- the memory of a PT_LOAD ends above HIGHEST_END
+-- the program header is a PT_LOAD whose memory ends above HIGHEST_END
 abbrev pub is_too_high : ProgramHeader → Bool
 is_too_high h = is_load h && nat_lt HIGHEST_END (h.address + h.memory_size)
 

@@ -67,9 +67,9 @@ impl<'a> Headers<'a> {
     }
 }
 
-/// A file that none of the tests E1 to E15 refuses: its dynamic section is in the file and has an
-/// end. If `read` or `of_accepted` made this value, the tests E16 to E21 don't refuse the file
-/// either. In contracts, the value is the file's bytes.
+/// A file that passes the tests E1 to E15: its dynamic section is in the file and has an end. A
+/// value that `read` or `of_accepted` returned has also passed the tests E16 to E21. In contracts,
+/// the value is the file's bytes.
 #[derive(Drop)]
 pub struct Dynamic<'a> {
     segments: Segments<'a>,
@@ -103,8 +103,8 @@ impl<'a> Dynamic<'a> {
         Dynamic::test(segments)
     }
 
-    /// Makes the view of a file that none of the tests E1 to E21 refuses. Repeats none of these
-    /// tests. Makes two passes over the program headers, and one over the dynamic section.
+    /// Makes the view of a file that the tests E1 to E21 accept. Doesn't repeat these tests. Makes
+    /// two passes over the program headers, and one over the dynamic section.
     pub fn of_accepted(file: &'a [u8]) -> Dynamic<'a>
         requires { file_refusal file.now ≡ None }
         ensures { result ≡ file.now }
@@ -116,7 +116,7 @@ impl<'a> Dynamic<'a> {
         }
     }
 
-    /// Finds the dynamic section and reads it. Returns `None` if the file has no good one (E15).
+    /// Finds and reads the dynamic section. Returns `None` if test E15 refuses the file.
     fn find(segments: Segments<'a>) -> Option<Dynamic<'a>>
         ensures { MatchOption result (has_bad_dynamic segments.entry ≡ true)
             (λ dynamic. (has_bad_dynamic segments.entry ≡ false) × (dynamic ≡ segments.entry)) }
@@ -180,7 +180,7 @@ impl<'a> Dynamic<'a> {
         self.tags.table.slots[place(tag)]
     }
 
-    /// Returns how often a tag is present.
+    /// Returns the number of entries that have the tag `tag`.
     #[tactic(auto, unfolding(crate::specs::Dynamic::tag_count))]
     pub fn tag_count(&self, tag: Tag) -> usize
         ensures { result ≡ tag_count self.now (number_of tag) }
@@ -188,7 +188,7 @@ impl<'a> Dynamic<'a> {
         self.slot(tag).count
     }
 
-    /// Returns whether a tag is present.
+    /// Returns whether an entry has the tag `tag`.
     #[tactic(auto, using(crate::proofs::TagTables::present))]
     pub fn is_present(&self, tag: Tag) -> bool
         ensures { result ≡ is_present self.now (number_of tag) }
@@ -196,7 +196,7 @@ impl<'a> Dynamic<'a> {
         self.tag_count(tag) > 0
     }
 
-    /// Returns the value of a tag, or 0 if the tag is absent.
+    /// Returns the value of the first entry with the tag `tag`, or 0 if there is no such entry.
     #[tactic(auto, unfolding(crate::specs::Dynamic::tag_value, crate::specs::Dynamic::find_entry))]
     pub fn tag_value(&self, tag: Tag) -> u64
         ensures { result ≡ tag_value self.now (number_of tag) }
@@ -227,16 +227,16 @@ impl<'a> Dynamic<'a> {
             || self.is_present(Tag::VerNeed)
     }
 
-    /// Returns whether `DT_FLAGS` has the bit `DF_SYMBOLIC`. Then the object's own references are
-    /// looked up in the object first.
+    /// Returns whether `DT_FLAGS` has the bit `DF_SYMBOLIC`. If it has, a lookup of a symbol to
+    /// which the object refers begins with the object itself.
     fn is_flagged_symbolic(&self) -> bool
         ensures { result ≡ is_flagged_symbolic self.now }
     {
         self.is_present(Tag::Flags) && self.tag_value(Tag::Flags) & DF_SYMBOLIC != 0
     }
 
-    /// Returns whether the object's own references are looked up in the object itself first (gABI
-    /// chapter 5, `DT_SYMBOLIC` and `DF_SYMBOLIC`). Takes constant time.
+    /// Returns whether a lookup of a symbol to which the object refers begins with the object
+    /// itself (gABI chapter 5, `DT_SYMBOLIC` and `DF_SYMBOLIC`). Takes constant time.
     #[tactic(auto, unfolding(crate::specs::Dynamic::is_symbolic))]
     pub fn is_symbolic(&self) -> bool
         ensures { result ≡ is_symbolic self.now }
@@ -256,7 +256,7 @@ impl<'a> Dynamic<'a> {
         !self.is_present(Tag::Hash)
     }
 
-    /// Returns whether one of the tags of the strings or the symbols is absent.
+    /// Returns whether a tag of the string table or of the symbol table is absent.
     fn lacks_symbol_tag(&self) -> bool
         ensures { result ≡ lacks_symbol_tag self.now }
     {
@@ -276,7 +276,7 @@ impl<'a> Dynamic<'a> {
                 && (!self.is_present(Tag::PltRelSize) || !self.is_present(Tag::PltRel)))
     }
 
-    /// Returns whether the value of a tag isn't a multiple of the size of a relocation.
+    /// Returns whether the value of the tag `tag` isn't a multiple of the size of a relocation.
     fn is_part(&self, tag: Tag) -> bool
         ensures { result ≡ is_part (tag_value self.now (number_of tag)) }
     {
@@ -317,8 +317,8 @@ impl<'a> Dynamic<'a> {
         self.tag_count(Tag::Needed)
     }
 
-    /// Returns the offsets of the needed libraries' names in the string table, in the order of
-    /// their entries. Going through them makes one pass over the dynamic section.
+    /// Returns the offsets, in the string table, of the needed libraries' names, in the order of
+    /// their entries. Reading all offsets makes one pass over the dynamic section.
     pub fn needed_offsets(&self) -> NeededOffsets<'a>
         ensures { result ≡ needed_offsets self.now }
     {

@@ -17,7 +17,7 @@ pub struct Entry {
 /// The size of an entry, in bytes.
 pub(crate) const DYNAMIC_ENTRY_SIZE: usize = 16;
 
-/// Returns entry number `i` of a section.
+/// Returns entry number `i` of `section`.
 #[tactic(auto, unfolding(crate::specs::Dynamic::entry))]
 pub(crate) fn nth_entry(section: &[u8], i: usize) -> Entry
     requires { i < length section.now / 16 }

@@ -24,7 +24,7 @@ const ELFOSABI_GNU: u8 = 3;
 const ET_DYN: u16 = 3;
 /// The machine x86-64.
 const EM_X86_64: u16 = 62;
-/// The value of `e_phnum` if the number of program headers is recorded elsewhere.
+/// The value of `e_phnum` if the file has the number of program headers elsewhere.
 const PN_XNUM: u16 = 0xffff;
 /// The size of a file header, in bytes.
 const FILE_HEADER_SIZE: u16 = 64;

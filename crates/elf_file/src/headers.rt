@@ -57,8 +57,7 @@ impl<'a> Headers<'a> {
         Ok(Headers { file })
     }
 
-    /// Makes the view of a file that none of the tests E1 to E10 refuses. Repeats none of these
-    /// tests.
+    /// Makes the view of a file that the tests E1 to E10 accept. Doesn't repeat these tests.
     pub(crate) fn of_accepted(file: &'a [u8]) -> Headers<'a>
         requires { header_refusal file.now ≡ None }
         ensures { result ≡ file.now }

@@ -10,8 +10,8 @@ use crate::load_index::LoadIndex;
 use crate::segment::ProgramHeader;
 use std::marker::Model;
 
-/// The segments of a file, with an index that finds the PT_LOAD at an address. It is for callers
-/// that look up many addresses. `Segments` has no index, so that it stays small. In contracts, the
+/// The segments of a file, with an index that finds the PT_LOAD at an address. Callers that look up
+/// many addresses use this type. `Segments` has no index, so that it stays small. In contracts, the
 /// value is the file's bytes.
 #[derive(Drop)]
 pub struct IndexedSegments<'a> {

@@ -17,11 +17,11 @@ pub(crate) const BLOCK: usize = 1024;
 const BLOCKS: usize = 64;
 
 /// The PT_LOADs in blocks. Each block begins with a PT_LOAD and spans 1,024 program headers from
-/// there. The index has, for each block, the header number of its first PT_LOAD.
+/// there. For each block, the index has the header number of the block's first PT_LOAD.
 ///
-/// A PT_LOAD is found by its address in three steps: a binary search over the blocks, a binary
-/// search within a block (`narrowed`), and a pass over the headers that are left. The pass is
-/// needed because headers of other types may lie between the PT_LOADs.
+/// A lookup of an address takes three steps: a binary search over the blocks, a binary search
+/// within a block (`narrowed`), and a pass over the remaining headers. The pass is needed because
+/// headers of other types may lie between the PT_LOADs.
 #[derive(Clone, Copy)]
 pub(crate) struct LoadIndex {
     pub(crate) blocks: usize,
@@ -29,7 +29,7 @@ pub(crate) struct LoadIndex {
 }
 
 impl LoadIndex {
-    /// Returns an index without blocks, which is the index of no program headers.
+    /// Returns an index without blocks: the index of a file without program headers.
     fn empty() -> LoadIndex
         ensures { (file : List ℕ) → Indexes file 0 result }
     {
@@ -50,8 +50,8 @@ impl LoadIndex {
         index
     }
 
-    /// Returns whether the last block spans program header number `i`. The answer is right only if
-    /// `i` isn't before the block's first header.
+    /// Returns whether the last block spans program header number `i`. The block must not begin
+    /// after header `i`.
     fn spans(&self, i: usize) -> bool
         requires { self.now.blocks ≤ BLOCKS }
         ensures { result ≡ is_spanned self.now i }
@@ -87,10 +87,9 @@ impl LoadIndex {
 }
 
 impl IndexedSegments<'_> {
-    /// Returns the header number of the first PT_LOAD of the last block that begins at or below
-    /// `address`, or `None` if no block does. Each PT_LOAD before the returned one ends at or below
-    /// `address`. Each PT_LOAD after the returned one's block begins above `address`. Makes a
-    /// binary search.
+    /// Returns the header number of the first PT_LOAD of a block: the last block that begins at or
+    /// below `address`. Returns `None` if no block does. All PT_LOADs before this block end at or
+    /// below `address`, and all PT_LOADs after it begin above `address`. Makes a binary search.
     pub(crate) fn block_at(&self, address: u64) -> Option<usize>
         ensures { MatchOption result (AllAbove self.now address 0) (IsBlockAt self.now address) }
     {
@@ -121,8 +120,8 @@ impl IndexedSegments<'_> {
         headers.is_load(i) && headers.nth(i).address <= address
     }
 
-    /// Returns `second` if it is the number of a PT_LOAD that begins at or below `address`, and
-    /// otherwise `first`.
+    /// Returns `second` if program header number `second` is a PT_LOAD that begins at or below
+    /// `address`. Otherwise returns `first`.
     fn later(&self, first: usize, second: usize, address: u64) -> usize
         requires block { IsBlockAt self.now address first }
         requires order { first ≤ second }
@@ -135,11 +134,11 @@ impl IndexedSegments<'_> {
         first
     }
 
-    /// Returns the number of a header at or after `first`. Like `first`, this header has two
-    /// properties: each PT_LOAD before it ends at or below `address`, and each PT_LOAD at least a
-    /// block after it begins above `address`. Makes a binary search over a block. If all headers of
-    /// the block are PT_LOADs, or every second one is, the result is the last PT_LOAD that begins
-    /// at or below `address`.
+    /// Returns the number of a header at or after `first`, from which a search for `address` can
+    /// begin: all PT_LOADs before this header end at or below `address`, and all PT_LOADs that come
+    /// at least a block after it begin above `address`. Both must hold of `first` too. Makes a
+    /// binary search over a block. If all headers of the block are PT_LOADs, or every second header
+    /// is, the result is the last PT_LOAD that begins at or below `address`.
     pub(crate) fn narrowed(&self, first: usize, address: u64) -> usize
         requires { IsBlockAt self.now address first }
         ensures { IsBlockAt self.now address result }

@@ -9,8 +9,8 @@ use crate::headers::Headers;
 use crate::segment::ProgramHeader;
 use std::marker::Model;
 
-/// The PT_LOADs that haven't been read yet, in the order of the program headers. In contracts, the
-/// value is the list of these PT_LOADs.
+/// An iterator over the PT_LOADs, in the order of the program headers. In contracts, the value is
+/// the list of the PT_LOADs that haven't been read yet.
 #[derive(Drop)]
 pub struct LoadSegments<'a> {
     headers: Headers<'a>,

@@ -17,11 +17,10 @@ pub fn is_in_memory_part(address: u64, size: u64, h: ProgramHeader) -> bool
 }
 
 impl IndexedSegments<'_> {
-    /// Returns a PT_LOAD whose memory part has the `size` bytes at `address`, or `None` if there is
-    /// none. Only a PT_LOAD of the last block that begins at or below `address` can have these
-    /// bytes, because each PT_LOAD begins at or above the end of the one before it. Makes a binary
-    /// search over the blocks, one over the headers of a block, and a pass over the headers that
-    /// are left.
+    /// Returns the PT_LOAD whose memory part has the `size` bytes at `address`, or `None` if there
+    /// is none. It can only be in the last block that begins at or below `address`, because each
+    /// PT_LOAD begins at or above the end of the one before it. Makes a binary search over the
+    /// blocks, one over the headers of a block, and a pass over the remaining headers.
     pub fn load_at(&self, address: u64, size: u64) -> Option<ProgramHeader>
         requires { 0 < size }
         ensures { MatchOption result (is_in_memory self.now address size ≡ false)

@@ -8,8 +8,8 @@ use crate::entry::nth_entry;
 use crate::tag::DT_NEEDED;
 use std::marker::Model;
 
-/// The offsets of the needed libraries' names that haven't been read yet, in the order of their
-/// entries. In contracts, the value is the list of these offsets.
+/// An iterator over the offsets of the needed libraries' names, in the order of their entries. In
+/// contracts, the value is the list of the offsets that haven't been read yet.
 #[derive(Drop)]
 pub struct NeededOffsets<'a> {
     section: &'a [u8],
@@ -47,7 +47,8 @@ fn next_needed(bytes: &[u8], count: usize, from: usize) -> usize
 }
 
 impl<'a> NeededOffsets<'a> {
-    /// Returns the offsets in the DT_NEEDED entries among the first `count` entries of a section.
+    /// Returns the offsets that the DT_NEEDED entries have, among the first `count` entries of
+    /// `section`.
     pub(crate) fn new(section: &'a [u8], count: usize) -> NeededOffsets<'a>
         requires { count ≤ length section.now / 16 }
         ensures { result ≡ values_from section.now count 0 }

@@ -14,7 +14,7 @@ use crate::load_segments::LoadSegments;
 pub struct ProgramHeader {
     /// `p_type`.
     pub kind: u32,
-    /// `p_flags`: 1 is execution, 2 writing, 4 reading. Other bits have no meaning here.
+    /// `p_flags`: 1 permits execution, 2 writing, 4 reading. The crate ignores all other bits.
     pub flags: u32,
     /// `p_offset`, in bytes from the file's start.
     pub offset: u64,

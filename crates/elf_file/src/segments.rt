@@ -14,7 +14,7 @@ use crate::load_segments::LoadSegments;
 use crate::segment::ProgramHeader;
 use std::marker::Model;
 
-/// A file that none of the tests E1 to E14 refuses. So each of its PT_LOADs begins at or above the
+/// A file that the tests E1 to E14 accept. Therefore each of its PT_LOADs begins at or above the
 /// end of the one before it. In contracts, the value is the file's bytes.
 #[derive(Drop)]
 pub struct Segments<'a> {
@@ -43,8 +43,7 @@ impl<'a> Segments<'a> {
         Ok(Segments { headers })
     }
 
-    /// Makes the view of a file that none of the tests E1 to E14 refuses. Repeats none of these
-    /// tests.
+    /// Makes the view of a file that the tests E1 to E14 accept. Doesn't repeat these tests.
     pub(crate) fn of_accepted(file: &'a [u8]) -> Segments<'a>
         requires headers { header_refusal file.now ≡ None }
         requires segments { segment_refusal file.now ≡ None }
@@ -64,7 +63,8 @@ impl<'a> Segments<'a> {
         }
     }
 
-    /// The headers. The contract also states which tests the PT_LOADs have passed.
+    /// The headers. The contract also states the properties of the PT_LOADs that E12 to E14 have
+    /// tested.
     pub fn headers(&self) -> &Headers<'a>
         ensures same { result.now ≡ self.now }
         ensures loads { has_bad_load self.now ≡ false }
@@ -98,8 +98,8 @@ impl<'a> Segments<'a> {
         unreachable!()
     }
 
-    /// Returns the PT_LOADs, in the order of the program headers. Going through them makes one pass
-    /// over the program headers.
+    /// Returns the PT_LOADs, in the order of the program headers. Reading all PT_LOADs makes one
+    /// pass over the program headers.
     pub fn iter(&self) -> LoadSegments<'a>
         ensures { result ≡ loads self.now }
     {

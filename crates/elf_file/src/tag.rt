@@ -1,4 +1,4 @@
-// The tags of the dynamic section that are read (gABI chapter 5).
+// The tags of the dynamic section that this crate reads (gABI chapter 5).
 
 ghost use Rattle.std.specs.Prelude.{◌≡◌};
 ghost use Rattle.elf_file.specs.Tag.{number_of};
@@ -27,7 +27,7 @@ pub(crate) const DT_STRSZ: u64 = 10;
 pub(crate) const DT_SYMENT: u64 = 11;
 /// The offset, in the string table, of the object's own name.
 pub(crate) const DT_SONAME: u64 = 14;
-/// A tag that is present if the object's own references are looked up in the object first.
+/// The tag of an object for which lookups of symbols begin with the object itself.
 pub(crate) const DT_SYMBOLIC: u64 = 16;
 /// The address of relocations without addends.
 pub(crate) const DT_REL: u64 = 17;
@@ -35,7 +35,7 @@ pub(crate) const DT_REL: u64 = 17;
 pub(crate) const DT_PLTREL: u64 = 20;
 /// The address of the relocations of the procedure linkage table.
 pub(crate) const DT_JMPREL: u64 = 23;
-/// Flags, of which only `DF_SYMBOLIC` has a meaning here.
+/// Flags. Only the flag `DF_SYMBOLIC` is read.
 pub(crate) const DT_FLAGS: u64 = 30;
 /// The address of relocations in short form.
 pub(crate) const DT_RELR: u64 = 36;

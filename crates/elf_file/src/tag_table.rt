@@ -1,4 +1,5 @@
-// A table that has, for each tag that is read, its count and its value in the dynamic section.
+// A table of the tags that are read: for each tag, the number of its entries, and the value of the
+// first one.
 
 ghost use Rattle.std.specs.Prelude.{◌≡◌, ◌<◌, ◌^◌, ℕ, [], true, false, Some};
 ghost use Rattle.std.specs.Prelude.{IfSome, MatchOption, slice_index_or};
@@ -17,8 +18,8 @@ use crate::tag::{
 /// The number of places in the table: one for each tag that is read.
 const PLACES: usize = 20;
 
-/// A tag's slot in the table: how often the tag is present, and the value of the first entry with
-/// the tag. The value is 0 if the tag is absent.
+/// A tag's slot in the table: the number of entries with the tag, and the value of the first of
+/// them, or 0 if there is none.
 #[derive(Clone, Copy)]
 pub(crate) struct Slot {
     pub(crate) count: usize,
@@ -34,7 +35,7 @@ pub(crate) struct TagTable {
     pub(crate) slots: [Slot; PLACES],
 }
 
-/// Returns the place of tag number `number` in the table, if it has one.
+/// Returns the place, in the table, of the tag with number `number`, if this tag has a place.
 fn place_of(number: u64) -> Option<usize>
     ensures ok { result ≡ place_of number }
     ensures within { IfSome result (λ k. k < PLACES) }
@@ -73,7 +74,7 @@ pub(crate) fn place(tag: Tag) -> usize
 }
 
 impl Slot {
-    /// Returns the slot after one more entry with its tag. `value` is the entry's value.
+    /// Returns this slot with one more entry counted. `value` is the entry's value.
     fn and(self, value: u64) -> Slot
         requires { self.count < 2 ^ 63 }
         ensures { result ≡ slot_more value self }
@@ -86,7 +87,7 @@ impl Slot {
 }
 
 impl TagTable {
-    /// Returns the table of a section without entries.
+    /// Returns the table for a section without entries.
     fn empty() -> TagTable
         ensures { IsTable [] result.slots }
     {

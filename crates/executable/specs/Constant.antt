@@ -13,7 +13,8 @@ PT_PHDR = 6
 abbrev pub PT_GNU_STACK : ℕ
 PT_GNU_STACK = 0x6474e551
 
--- the tags, in d_tag, of an initializer, of an array of initializers, and of the array's size in bytes
+-- the tags, in d_tag, of an initializer, of an array of initializers, and of this array's size in
+-- bytes
 abbrev pub DT_INIT : ℕ
 DT_INIT = 12
 
@@ -23,8 +24,8 @@ DT_INIT_ARRAY = 25
 abbrev pub DT_INIT_ARRAYSZ : ℕ
 DT_INIT_ARRAYSZ = 27
 
--- the tags of a finalizer, of an array of finalizers, and of the array's size in bytes; finalizers are functions that
--- are called when the program ends
+-- the tags of a finalizer, of an array of finalizers, and of this array's size in bytes; finalizers
+-- are functions that a loader calls when the program ends
 abbrev pub DT_FINI : ℕ
 DT_FINI = 13
 
@@ -34,15 +35,15 @@ DT_FINI_ARRAY = 26
 abbrev pub DT_FINI_ARRAYSZ : ℕ
 DT_FINI_ARRAYSZ = 28
 
--- the tags of an array of pre-initializers and of the array's size in bytes; only a program has such an array, and its
--- functions are called before all other functions
+-- the tags of an array of pre-initializers and of this array's size in bytes; only a program has
+-- such an array, and a loader calls its functions before all other functions
 abbrev pub DT_PREINIT_ARRAY : ℕ
 DT_PREINIT_ARRAY = 32
 
 abbrev pub DT_PREINIT_ARRAYSZ : ℕ
 DT_PREINIT_ARRAYSZ = 33
 
--- the tag of an object's flags, in d_tag, and the flag of a position-independent executable
+-- the tag, in d_tag, of an object's flags, and the flag of a position-independent executable
 abbrev pub DT_FLAGS_1 : ℕ
 DT_FLAGS_1 = 0x6ffffffb
 
@@ -57,7 +58,8 @@ PT_INTERP = 3
 abbrev pub PT_NOTE : ℕ
 PT_NOTE = 4
 
--- the p_align of notes that are read; the name and the descriptor of a note are padded to multiples of this number
+-- the p_align of the notes that are read; the name and the descriptor of a note are padded to
+-- multiples of this number
 abbrev pub NOTE_ALIGNMENT : ℕ
 NOTE_ALIGNMENT = 4
 
@@ -65,8 +67,8 @@ NOTE_ALIGNMENT = 4
 abbrev pub NOTE_HEADER_SIZE : ℕ
 NOTE_HEADER_SIZE = 12
 
--- the name of the calls note, by which a program calls its libraries' functions itself (own): `rlibreg`
--- and a zero, as a number of eight bytes; and the size of this name
+-- the name of the calls note, which states that a program itself calls its libraries' functions
+-- (own): `rlibreg` and a zero, as a number of eight bytes; and the size of this name
 abbrev pub CALLS_NAME : ℕ
 CALLS_NAME = 0x67657262696c72
 
@@ -81,7 +83,7 @@ CALLS_TYPE = 1
 abbrev pub ARRAY_ENTRY_SIZE : ℕ
 ARRAY_ENTRY_SIZE = 8
 
--- the lowest address that the kernel allows a process to map unless the process runs as root
+-- the lowest address that the kernel lets a process map, unless the process runs as root
 -- (vm.mmap_min_addr)
 abbrev pub LOWEST : ℕ
 LOWEST = 0x10000

@@ -26,12 +26,12 @@ header_bytes h =
     little_bytes 4 h.kind ++ (little_bytes 4 h.flags ++ (little_bytes 8 h.offset ++ (little_bytes 8 h.address
     ++ (little_bytes 8 h.address ++ (little_bytes 8 h.file_size ++ (little_bytes 8 h.memory_size ++ little_bytes 8 h.alignment))))))
 
--- bytes, and then zeros to the end of the page
+-- `bytes`, and then zeros to the end of the page
 abbrev pub padded : List ℕ → List ℕ
 padded bytes = bytes ++ replicate ((PAGE - length bytes % PAGE) % PAGE) 0
 
--- the pages of the file that contain a piece's bytes; the first byte has the same offset in its page of the file as the
--- piece's address has in its page of memory
+-- the pages of the file that contain a piece's bytes; the offset of the first byte in its page of
+-- the file is the offset of the piece's address in its page of memory
 unfoldable pub piece_bytes : Loaded → List ℕ
 piece_bytes p = padded (replicate (p.heading.address % PAGE) 0 ++ p.contents)
 
@@ -48,7 +48,7 @@ load_header at p =
       alignment = PAGE;
     }
 
--- the PT_LOADs of pieces whose pages in the file follow one another from offset `at`
+-- the PT_LOADs of `pieces`, whose pages in the file follow one another from offset `at`
 abbrev pub load_headers : ℕ → List Loaded → List ProgramHeader
 load_headers at [] = []
 load_headers at (p ∷ rest) = load_header at p ∷ load_headers (at + length (piece_bytes p)) rest
@@ -66,7 +66,7 @@ own_header place n =
       alignment = PAGE;
     }
 
--- PT_PHDR, with the address and the offset of the program headers
+-- the PT_PHDR, with the address and the offset of the program headers
 abbrev pub table_header : ℕ → ℕ → ProgramHeader
 table_header place n =
     record {
@@ -79,7 +79,7 @@ table_header place n =
       alignment = 8;
     }
 
--- PT_GNU_STACK: a stack that may be read and written, and not executed
+-- the PT_GNU_STACK of a stack that may be read and written, but not executed
 abbrev pub stack_header : ProgramHeader
 stack_header =
     record { kind = PT_GNU_STACK; flags = PF_R + PF_W; offset = 0; address = 0; file_size = 0; memory_size = 0; alignment = 16 }

@@ -20,8 +20,8 @@ has_from section tag least = list_any (λ e. has_tag tag e && nat_le least e.val
 abbrev pub has_array : List ℕ → ℕ → ℕ → Bool
 has_array section array size = has_from section array 0 && has_from section size ARRAY_ENTRY_SIZE
 
--- a dynamic section has a function, by the tag `function`, or an array of functions with at least one
--- entry
+-- a dynamic section has a function, by the tag `function`, or an array of functions with at least
+-- one entry, by the tags `array` and `size`
 abbrev pub has_functions : ℕ → ℕ → ℕ → List ℕ → Bool
 has_functions function array size section = has_from section function 0 || has_array section array size
 
@@ -29,8 +29,8 @@ has_functions function array size section = has_from section function 0 || has_a
 abbrev pub memory_from : List ImageSegment → ℕ → List ℕ
 memory_from segments address = option_map_or (λ s. drop (address - s.address) s.bytes) (find (λ s. holds address (heading s)) segments) []
 
--- the memory of an object's own segments from `base` plus `d` to the end of the segment; empty if there
--- is no `d`, or if no segment has this address
+-- the memory of an object's own segments from address `base` + `d` to the end of the segment; empty
+-- if there is no `d`, or if no segment has this address
 abbrev pub section_memory : ℕ → List ImageSegment → Option ℕ → List ℕ
 section_memory base own None = []
 section_memory base own (Some d) = if nat_le (base + d) MEMORY_LIMIT then memory_from own (base + d) else []
@@ -40,16 +40,16 @@ section_memory base own (Some d) = if nat_le (base + d) MEMORY_LIMIT then memory
 abbrev pub dynamic_memory : ImageObject → List ImageSegment → List ℕ
 dynamic_memory object own = section_memory object.base own object.addresses.dynamic
 
--- the name of the first of these libraries whose dynamic section passes the test `has`; `segments` are
--- those of the libraries, one library after the other
+-- the name of the first of these libraries whose dynamic section passes the test `has`, or none;
+-- `segments` are those of the libraries, one library after the other
 abbrev pub first_among : (List ℕ → Bool) → List ImageObject → List ImageSegment → Option (List ℕ)
 first_among has [] segments = None
 first_among has (o ∷ rest) segments =
     if has (dynamic_memory o (take o.segment_count segments)) then Some o.name
     else first_among has rest (drop o.segment_count segments)
 
--- the name of the first library whose dynamic section passes the test `has`; the first object is the program, and the
--- other objects are the libraries
+-- the name of the first library whose dynamic section passes the test `has`, or none; the first
+-- object is the program, and all others are libraries
 abbrev pub first_behind : (List ℕ → Bool) → List ImageObject → List ImageSegment → Option (List ℕ)
 first_behind has [] segments = None
 first_behind has (program ∷ libraries) segments = first_among has libraries (drop program.segment_count segments)
@@ -66,7 +66,7 @@ first_initialized image = first_library (has_functions DT_INIT DT_INIT_ARRAY DT_
 abbrev pub first_finalized : MemoryImage → Option (List ℕ)
 first_finalized image = first_library (has_functions DT_FINI DT_FINI_ARRAY DT_FINI_ARRAYSZ) image
 
--- the program, which is the first of these objects, has pre-initializers
+-- the program, which is the first object, has pre-initializers
 abbrev pub preinitialized_among : List ImageObject → List ImageSegment → Bool
 preinitialized_among [] segments = false
 preinitialized_among (program ∷ libraries) segments =

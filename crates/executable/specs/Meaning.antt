@@ -1,5 +1,5 @@
--- How a file is loaded (gABI chapter 5, program loading), stated with the definitions by which files are
--- read.
+-- The effect of loading a file (gABI chapter 5, program loading), stated with the definitions for
+-- reading a file.
 use Rattle.std.specs.Prelude.{ℕ, ◌≡◌, ◌+◌, ◌-◌, ◌<◌, ◌≤◌, ◌%◌, ◌⊎◌, false, List, [], ◌∷◌, map, take, slice_index, Option, Some}
 use Rattle.elf_file.specs.Number.{number_at}
 use Rattle.elf_file.specs.Header.{HasHeaders, has_bad_magic, has_bad_class, has_bad_data, has_bad_version, has_bad_os_abi}
@@ -14,7 +14,7 @@ use Rattle.executable.specs.File.{is_below, put_in_order, table_of}
 use Rattle.executable.specs.Piece.{page_of, end_of, pieces_of}
 use Rattle.executable.specs.Place.{header_count_of, headers_size, place_of}
 
--- the PT_LOADs of a file in memory, at the addresses that the file has for them
+-- the PT_LOADs of a file in memory, at their addresses in the file
 abbrev pub loaded_by : List ℕ → List Loaded
 loaded_by file = map (loaded_at 0 file) (loads file)
 
@@ -22,7 +22,7 @@ loaded_by file = map (loaded_at 0 file) (loads file)
 abbrev pub file_byte : List ℕ → ℕ → Option ℕ
 file_byte file address = loaded_byte_at (loaded_by file) address
 
--- the file is a complete ELF-64 executable for x86-64: none of the tests E1 to E6 and E8 to E10 applies
+-- the file is a complete ELF-64 executable for x86-64: the tests E1 to E6 and E8 to E10 accept it
 pub record IsExecutable (file : List ℕ) : Type 0 where
   pub whole : HasHeaders file
   pub magic : has_bad_magic file ≡ false
@@ -35,7 +35,8 @@ pub record IsExecutable (file : List ℕ) : Type 0 where
   pub header_size : has_bad_header_size file ≡ false
   pub headers : has_bad_program_headers file ≡ false
 
--- a file's headers in memory at address `place`; this memory may be read, but neither written nor executed
+-- a file's headers in memory at address `place`, with the permission to read, but not to write or
+-- execute
 abbrev pub headers_at : ℕ → List Loaded → List ℕ → Loaded
 headers_at place pieces file =
     let size = headers_size (header_count_of pieces) in
@@ -61,8 +62,8 @@ pub record IsOfHeaders (segments : List ImageSegment) (file : List ℕ) (a b : �
 abbrev pub HasAny : List ImageSegment → ℕ → Type 0
 HasAny segments a = (b : ℕ) × (segments_byte segments a ≡ Some b)
 
--- address `a` lies between two addresses that have bytes in segments; the pages of these two addresses are the same or
--- adjacent
+-- address `a` lies between two addresses that have bytes in segments; these two addresses are in
+-- the same page or in adjacent pages
 pub record IsBetween (segments : List ImageSegment) (a : ℕ) : Type 0 where
   pub below : ℕ
   pub above : ℕ
@@ -72,8 +73,8 @@ pub record IsBetween (segments : List ImageSegment) (a : ℕ) : Type 0 where
   pub has_above : HasAny segments above
   pub page : page_of above ≤ page_of below + PAGE
 
--- byte `b` at address `a` belongs to the segments or to the headers, or is a 0 between two bytes of segments whose
--- pages are the same or adjacent
+-- byte `b` at address `a` belongs to the segments or to the headers, or is a 0 between two bytes of
+-- segments in the same page or in adjacent pages
 abbrev pub IsFrom : List ImageSegment → List ℕ → ℕ → ℕ → Type 0
 IsFrom segments file a b = (segments_byte segments a ≡ Some b) ⊎ (IsOfHeaders segments file a b ⊎ ((b ≡ 0) × IsBetween segments a))
 

@@ -1,4 +1,4 @@
--- The outcome of making an executable of an image: the file, or the line of a refusal (own).
+-- The result of making an executable of an image: the file, or the line of a refusal (own).
 use Rattle.std.specs.Prelude.{◌≡◌, ℕ, List, All, ◌++◌, Some, None, codes}
 use Rattle.elf_file.specs.Header.{entry_address}
 use Rattle.elf_file.specs.Segment.{loads}
@@ -10,8 +10,9 @@ use Rattle.executable.specs.Refusal.{executable_refusal}
 use Rattle.executable.specs.declared.refusal.ExecutableRefusal.{ExecutableRefusal}
 use Rattle.executable.specs.declared.refusal.ExecutableRefusal.TheVariants as refusal
 
--- No test refuses the image. The file loads the image's bytes. Besides these bytes, the file loads only its own
--- headers, and zeros between two bytes of segments whose pages are the same or adjacent.
+-- No test refuses the image, and the file loads the image's bytes. Apart from these bytes, the file
+-- loads only its own headers, and zeros that lie between two bytes of segments in the same page or
+-- in adjacent pages.
 pub record IsExecutableOf (image : MemoryImage) (file : List ℕ) : Type 0 where
   pub accepted : executable_refusal image ≡ None
   pub header : IsExecutable file

@@ -1,5 +1,5 @@
--- Where a file's own headers are mapped: in pages that no piece has, because the kernel passes the headers' address to
--- the program.
+-- The address at which a file's own headers are mapped. No piece has these pages, because the
+-- kernel passes the headers' address to the program.
 use Rattle.std.specs.Prelude.{ℕ, ◌+◌, ◌-◌, ◌*◌, max, fold, nat_le, if◌then◌else◌, List, [], ◌∷◌, length, map, Option, Some, None}
 use Rattle.std.specs.Int.{next_multiple_of}
 use Rattle.elf_file.specs.Constant.{FILE_HEADER_SIZE, PROGRAM_HEADER_SIZE}
@@ -20,19 +20,19 @@ headers_size n = FILE_HEADER_SIZE + PROGRAM_HEADER_SIZE * n
 abbrev pub headers_room : ℕ → ℕ
 headers_room n = next_multiple_of (headers_size n) PAGE
 
--- the greatest address at which a piece ends
+-- the greatest address at which a piece ends, or 0 if there are no pieces
 abbrev pub highest_end : List Loaded → ℕ
 highest_end pieces = fold max 0 (map end_of pieces)
 
--- the address of the first page that is below neither `end` nor LOWEST; none if `room` bytes from there would end above
--- the limit
+-- the address of the first page that is below neither `end` nor LOWEST, or none if `room` bytes
+-- from there would end above the limit
 abbrev pub place_above : ℕ → ℕ → Option ℕ
 place_above end room =
     let place = max LOWEST (next_multiple_of end PAGE) in
     if nat_le (place + room) MEMORY_LIMIT then Some place else None
 
--- the address for `room` bytes of headers: right below the page of the first piece, if this address isn't below LOWEST;
--- otherwise above all pieces
+-- the address for `room` bytes of headers: directly below the page of the first piece, if this
+-- address isn't below LOWEST, and otherwise above all pieces
 abbrev pub place_for : ℕ → List Loaded → Option ℕ
 place_for room [] = Some LOWEST
 place_for room (p ∷ rest) =

@@ -1,4 +1,4 @@
--- Programs that relocate themselves when they start, and look for their PT_DYNAMIC to do so (own;
+-- Programs that relocate themselves when they start. To do so, they look for their PT_DYNAMIC (own;
 -- file(1) recognizes a static PIE in this way).
 use Rattle.std.specs.Prelude.{ℕ, ◌*◌, ◌/◌, ◌==◌, min, length, List, [], ◌∷◌, take, Bool, false, not, ◌&&◌, bit_and}
 use Rattle.std.specs.List.{list_any, range_with_len}
@@ -14,12 +14,14 @@ use Rattle.executable.specs.Initializers.{dynamic_memory, section_memory}
 unfoldable pub is_pie : List ℕ → Bool
 is_pie section = list_any (λ e. has_tag DT_FLAGS_1 e && not (bit_and e.value DF_1_PIE == 0)) (entries_in section)
 
--- one of the first `n` program headers has type `kind`; only headers that are completely in `memory` count
+-- one of the first `n` program headers has the type `kind`; only headers that are completely in
+-- `memory` count
 unfoldable pub has_header : List ℕ → ℕ → ℕ → Bool
 has_header memory n kind =
     list_any (λ i. number_at 4 memory (PROGRAM_HEADER_SIZE * i) == kind) (range_with_len 0 (min (length memory / PROGRAM_HEADER_SIZE) n))
 
--- the program, which is the first of these objects, is a position-independent executable without an interpreter
+-- the program, which is the first object, is a position-independent executable without an
+-- interpreter
 abbrev pub static_pie_among : List ImageObject → List ImageSegment → Bool
 static_pie_among [] segments = false
 static_pie_among (program ∷ libraries) segments =

@@ -1,5 +1,5 @@
--- Functions that nobody would call: an executable has no loader, and the program has no note by which it
--- calls them itself (own).
+-- Functions that nobody would call: an executable has no loader, and the program has no note that
+-- it calls them itself (own).
 use Rattle.std.specs.Prelude.{List, ℕ, Option, None, Bool, not, ◌&&◌, if◌then◌else◌}
 use Rattle.image.specs.Image.{MemoryImage}
 use Rattle.executable.specs.Initializers.{first_initialized, first_finalized, is_preinitialized}

@@ -23,8 +23,8 @@ fn has_code(segments: &[Segment], address: u64) -> bool
     segments.iter().any(|s| is_code(s, address))
 }
 
-/// Returns the entry of `program`, if it is in the program's own code. The first
-/// `program.segment_count` segments are the program's own.
+/// Returns the entry of `program`, if it is in the program's own code. The program's own segments
+/// are the first `program.segment_count` segments.
 fn own_entry(program: &ImageObject, segments: &[Segment]) -> Option<u64>
     ensures { result ≡ own_entry program.now segments.now }
 {

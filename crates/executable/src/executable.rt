@@ -48,7 +48,7 @@ impl Model for Executable {
 
     ghost view = { λ e. file_with e.front.items e.pieces.items };
 
-    // The file header is complete.
+    // The bytes of `front` are at least a whole file header.
     ghost invariant = { λ e. 64 ≤ length e.front.items };
 }
 
@@ -86,7 +86,7 @@ fn write_pieces<W: Write>(out: &mut W, pieces: &[Piece]) -> io::Result<()>
 }
 
 impl Executable {
-    /// Returns the number of program headers.
+    /// The number of program headers.
     pub fn header_count(&self) -> u16
         ensures { result ≡ header_count self.now }
     {
@@ -136,10 +136,10 @@ fn writable_code(alloc: Global, name: &[u8]) -> ExecutableRefusal
     }
 }
 
-/// Returns the image's entry if none of these tests applies: the program has no entry in its own
+/// Returns the image's entry if none of these tests refuses: the program has no entry in its own
 /// code; it relocates itself; an object has functions that nobody would call. Otherwise returns the
-/// refusal of the first test that applies. If the program has a note that it calls these functions
-/// itself, the tests of functions don't apply.
+/// refusal of the first test that refuses. If the program has a note that it calls these functions
+/// itself, the tests of functions don't refuse.
 fn entry_to_call(alloc: Global, image: &Image) -> Result<u64, ExecutableRefusal>
     ensures entry { IfOk result (λ entry. entry_of image.now ≡ Some entry) }
     ensures called { OnOk result (HasNoCalls image.now) }
@@ -186,19 +186,19 @@ fn file_of(
 
 /// Makes the static executable file of a bound program.
 ///
-/// Returns the file, or the first of these refusals: the program has no entry in code of its own;
-/// it is a static PIE; it has pre-initializers; a library has initializers; a library has
-/// finalizers; there are more program headers than the kernel accepts; memory may be written and
-/// executed although no segment in it requests both; no pages are free for the headers. The three
-/// refusals for functions don't apply if the program has a note that it calls these functions
-/// itself.
+/// Returns the file, or the first of these refusals: the program has no entry in its own code; it
+/// is a static PIE; it has pre-initializers; a library has initializers; a library has finalizers;
+/// there are more program headers than the kernel accepts; memory may be written and executed
+/// although no segment in it requests both; no pages are free for the headers. If the program has a
+/// note that it calls its libraries' functions itself, the three refusals for functions don't
+/// apply.
 ///
-/// Allocates as much memory as the image's bytes, and up to three times as much if segments are
-/// joined. Makes two passes over the bytes.
+/// Allocates as much memory as the image's bytes, and up to three times as much if it joins
+/// segments. Makes two passes over the bytes.
 pub fn executable_of(alloc: Global, image: &Image) -> Result<Executable, ExecutableRefusal>
 
-    // Returns a file only if no test applies. Otherwise returns the refusal of the first test that
-    // applies, or OutOfMemory.
+    // Returns a file only if no test refuses. Otherwise returns the refusal of the first test that
+    // refuses, or OutOfMemory.
     ensures accepted { OnOk result (executable_refusal image.now ≡ None) }
     ensures refused { IfErr result (IsAnswer image.now) }
 
@@ -218,8 +218,8 @@ pub fn executable_of(alloc: Global, image: &Image) -> Result<Executable, Executa
     ensures loads { IfOk result (λ file. (a b : ℕ) →
         image_byte image.now a ≡ Some b → file_byte file a ≡ Some b) }
 
-    // Besides these bytes, the file loads only its own headers, and zeros between two bytes of
-    // segments whose pages are the same or adjacent.
+    // Apart from these bytes, the file loads only its own headers, and zeros that lie between two
+    // bytes of segments in the same page or in adjacent pages.
     ensures only { IfOk result (λ file. (a b : ℕ) →
         file_byte file a ≡ Some b → IsFrom image.now.segments file a b) }
 

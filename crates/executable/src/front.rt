@@ -30,8 +30,8 @@ const PROGRAM_HEADER_SIZE: u64 = 56;
 const BEGIN: [u8; 24] = [
     0x7f, b'E', b'L', b'F', 2, 1, 1, 0, 0, 0, 0, 0, 0, 0, 0, 0, 2, 0, 62, 0, 1, 0, 0, 0,
 ];
-/// The bytes of each file header between the entry and the number of program headers: the program
-/// headers follow the file header, and there are no flags and no sections.
+/// The bytes of each file header from the end of the entry to the number of program headers: the
+/// program headers follow the file header, and there are no flags and no sections.
 const MIDDLE: [u8; 24] = [
     64, 0, 0, 0, 0, 0, 0, 0, 0, 0, 0, 0, 0, 0, 0, 0, 0, 0, 0, 0, 64, 0, 56, 0,
 ];
@@ -128,8 +128,9 @@ fn load_header(offset: u64, piece: &Piece) -> ProgramHeader
     }
 }
 
-/// Appends the PT_LOADs of pieces to a table that has room for these headers. The pages of the
-/// first piece begin at `offset` of the file, and those of the other pieces follow.
+/// Appends the PT_LOADs of `pieces` to a table that has room for them. The pages of the first piece
+/// begin at `offset` of the file, and the pages of each later piece follow those of the piece
+/// before it.
 fn put_load_headers(table: &mut Vec<ProgramHeader>, mut offset: u64, pieces: &[Piece])
     requires offset { offset ≤ 2 ^ 20 }
     requires count { length pieces.now ≤ MOST_HEADERS }
@@ -162,7 +163,7 @@ fn own_header(place: u64, count: usize) -> ProgramHeader
     }
 }
 
-/// Returns PT_PHDR, with the address and the offset of the program headers.
+/// Returns the PT_PHDR, with the address and the offset of the program headers.
 fn table_header(place: u64, count: usize) -> ProgramHeader
     requires place { place ≤ MEMORY_LIMIT }
     requires count { count ≤ MOST_HEADERS }
@@ -179,7 +180,7 @@ fn table_header(place: u64, count: usize) -> ProgramHeader
     }
 }
 
-/// Returns PT_GNU_STACK: the stack may be read and written, and not executed.
+/// Returns the PT_GNU_STACK of a stack that may be read and written, but not executed.
 fn stack_header() -> ProgramHeader
     ensures { result ≡ stack_header }
 {

@@ -17,23 +17,23 @@ use names::Name;
 
 /// The tag, in `d_tag`, of the end of a dynamic section (gABI chapter 5).
 pub(crate) const DT_NULL: u64 = 0;
-/// The tags of an initializer, of an array of initializers, and of the array's size in bytes.
+/// The tags of an initializer, of an array of initializers, and of this array's size in bytes.
 const DT_INIT: u64 = 12;
 
 const DT_INIT_ARRAY: u64 = 25;
 
 const DT_INIT_ARRAYSZ: u64 = 27;
 
-/// The tags of a finalizer, of an array of finalizers, and of the array's size in bytes. Finalizers
-/// are functions that are called when the program ends.
+/// The tags of a finalizer, of an array of finalizers, and of this array's size in bytes.
+/// Finalizers are functions that a loader calls when the program ends.
 const DT_FINI: u64 = 13;
 
 const DT_FINI_ARRAY: u64 = 26;
 
 const DT_FINI_ARRAYSZ: u64 = 28;
 
-/// The tags of an array of pre-initializers and of the array's size in bytes. Only a program has
-/// such an array. Its functions are called before all other functions.
+/// The tags of an array of pre-initializers and of this array's size in bytes. Only a program has
+/// such an array. A loader calls its functions before all other functions.
 const DT_PREINIT_ARRAY: u64 = 32;
 
 const DT_PREINIT_ARRAYSZ: u64 = 33;
@@ -41,7 +41,7 @@ const DT_PREINIT_ARRAYSZ: u64 = 33;
 /// The size in bytes of an entry of an array of functions.
 const ARRAY_ENTRY_SIZE: u64 = 8;
 
-/// The tags of a function, of an array of functions, and of the array's size.
+/// The tags of a function, of an array of functions, and of this array's size.
 #[derive(Drop)]
 struct Tags {
     function: u64,
@@ -92,8 +92,8 @@ fn has_array(section: &Memory<'_>, array: u64, size: u64) -> bool
     has_from(section, array, 0) && has_from(section, size, ARRAY_ENTRY_SIZE)
 }
 
-/// Returns whether a dynamic section has, under `tags`, a function or an array of functions with at
-/// least one entry.
+/// Returns whether a dynamic section has a function, or an array of functions with at least one
+/// entry, by the tags `tags`.
 fn has_functions(section: &Memory<'_>, tags: &Tags) -> bool
     ensures { result ≡ has_functions tags.now.function tags.now.array tags.now.size section.now }
 {
@@ -114,8 +114,8 @@ fn memory_from(segments: &[Segment], address: u64) -> Memory<'_>
     Memory::new(&[], 0)
 }
 
-/// Returns the memory of an object's own segments from `base` plus `place` to the end of the
-/// segment. It is empty if `place` is `None`, or if none of the segments has this address.
+/// Returns the memory of an object's own segments from address `base` + `place` to the end of the
+/// segment. The memory is empty if `place` is `None`, or if no segment has this address.
 pub(crate) fn section_memory(base: u64, own: &[Segment], place: Option<u64>) -> Memory<'_>
     ensures { result ≡ section_memory base own.now place }
 {
@@ -135,7 +135,7 @@ pub(crate) fn dynamic_memory<'a>(object: &ImageObject, own: &'a [Segment]) -> Me
     section_memory(object.base, own, object.addresses.dynamic)
 }
 
-/// Returns the name of the first library that has functions under `tags`. Makes one pass over
+/// Returns the name of the first library that has functions by the tags `tags`. Makes one pass over
 /// objects, segments and dynamic sections.
 fn first_library<'a>(image: &'a Image, tags: &Tags) -> Option<&'a Name>
     ensures { option_map (λ name. name.now) result

@@ -1,8 +1,8 @@
 //! A bound program as a static ELF executable for x86-64 (gABI chapters 4 and 5, elf(5)).
 //!
-//! `executable_of` makes the file of an image, which loads exactly that image. The file has a
-//! PT_LOAD for each run of pages with the same permissions, one PT_LOAD for the headers, PT_PHDR
-//! and PT_GNU_STACK. It starts without a loader and without a registry.
+//! `executable_of` makes a file from an image. The kernel loads exactly this image from the file.
+//! The file has a PT_LOAD for each run of pages with the same permissions, one PT_LOAD for the
+//! headers, PT_PHDR and PT_GNU_STACK. It starts without a loader and without a registry.
 #![tactic(auto)]
 
 mod entry;

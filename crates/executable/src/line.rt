@@ -13,7 +13,8 @@ use text_output::{LINE, OutputBuffer, WriteFault};
 /// The buffer for a line.
 type Line = OutputBuffer<LINE>;
 
-/// Appends the line of a refusal that names an object to the buffered text.
+/// Appends the line of a refusal that names an object to the buffered text: `says`, and then the
+/// object's name.
 fn put_object<W: Write>(
     line: &mut Line,
     out: &mut W,
@@ -56,7 +57,7 @@ pub fn put_executable_refusal<W: Write>(
     }
 }
 
-/// Writes the line of a refusal, with one write.
+/// Writes the line of a refusal in one write.
 pub fn write_executable_refusal<W: Write>(
     out: &mut W,
     refusal: &ExecutableRefusal,

@@ -49,7 +49,7 @@ fn merged(alloc: Global, pieces: Vec<Piece>) -> Result<Vec<Piece>, AllocError>
     Ok(done)
 }
 
-/// Returns the pieces of segments in the form in which the file has them.
+/// Returns the pieces of `segments`, as the file has them.
 pub(crate) fn pieces_of(alloc: Global, segments: &[Segment]) -> Result<Vec<Piece>, AllocError>
     requires { AreRising 0 segments.now }
     ensures { IfOk result (λ pieces. pieces.items ≡ pieces_of segments.now) }

@@ -1,4 +1,4 @@
-// Reads the notes of a program. One of these notes, the calls note, says that the program itself
+// Reads the notes of a program. One of these notes, the calls note, states that the program itself
 // calls its libraries' functions.
 
 ghost use Rattle.std.specs.Prelude.{◌≡◌, ◌+◌, ◌≤◌, ◌<◌, ◌/◌, ◌^◌, drop, length, take};
@@ -15,20 +15,20 @@ use image::{Image, ImageObject, Memory, Segment};
 
 /// The `p_type` of a segment of notes.
 const PT_NOTE: u32 = 4;
-/// The `p_align` of notes that are read. The name and the descriptor of a note are padded to
-/// multiples of this number.
+/// The `p_align` of the notes that this module reads. The name and the descriptor of a note are
+/// padded to multiples of this number.
 const NOTE_ALIGNMENT: u64 = 4;
 /// The number of bytes of a note before its name.
 const NOTE_HEADER_SIZE: usize = 12;
-/// The name of the calls note: `rlibreg` and a zero, as a number of eight bytes; and the size of
-/// this name in bytes.
+/// The name of the calls note, which is `rlibreg` and a zero, as a number of eight bytes; and the
+/// size of this name in bytes.
 const CALLS_NAME: u64 = 0x0067_6572_6269_6c72;
 
 const CALLS_NAME_SIZE: u32 = 8;
 /// The type of the calls note, which has no descriptor.
 const CALLS_TYPE: u32 = 1;
 
-/// Returns the first `size` bytes of a memory, or all of its bytes if it has fewer.
+/// Returns the first `size` bytes of `memory`, or all of its bytes if there are fewer.
 fn first_bytes<'a>(memory: &Memory<'a>, size: u64) -> Memory<'a>
     ensures { result ≡ take size memory.now }
 {
@@ -38,7 +38,7 @@ fn first_bytes<'a>(memory: &Memory<'a>, size: u64) -> Memory<'a>
     Memory::new(&front[..kept], size as u32)
 }
 
-/// Returns the padded size of a name or a descriptor. The unpadded size is at offset `at`.
+/// Returns the padded size of a note's name or descriptor, whose unpadded size is at offset `at`.
 fn padded_size(notes: &Memory<'_>, at: usize) -> usize
     requires { at + 4 ≤ length notes.now }
     ensures value { result ≡ next_multiple_of (number_at 4 notes.now at) NOTE_ALIGNMENT }
@@ -48,7 +48,7 @@ fn padded_size(notes: &Memory<'_>, at: usize) -> usize
     size.next_multiple_of(NOTE_ALIGNMENT) as usize
 }
 
-/// Returns the notes after the first one, or `None` if the first one isn't whole.
+/// Returns the notes after the first one, or `None` if the first one isn't complete.
 fn behind_note<'a>(notes: &Memory<'a>) -> Option<Memory<'a>>
     ensures { MatchOption result (length notes.now < note_size notes.now)
         (λ rest. (note_size notes.now ≤ length notes.now) × (rest ≡ drop (note_size notes.now) notes.now)) }
@@ -91,8 +91,8 @@ fn has_calls_note(notes: &Memory<'_>) -> bool
     false
 }
 
-/// Returns whether program header number `i` describes notes that are read: a PT_NOTE with the
-/// alignment 4.
+/// Returns whether program header number `i` describes notes that this module reads: whether it is
+/// a PT_NOTE with the alignment 4.
 fn is_of_notes(headers: &Memory<'_>, i: usize) -> bool
     requires small { length headers.now < 2 ^ 32 }
     requires within { i < length headers.now / 56 }
@@ -103,7 +103,7 @@ fn is_of_notes(headers: &Memory<'_>, i: usize) -> bool
 }
 
 /// Returns the number of the first program header, among the first `count`, that describes notes
-/// that are read. Makes one pass over the headers.
+/// that this module reads. Makes one pass over the headers.
 #[tactic(auto, unfolding(crate::specs::Note::find_notes))]
 fn find_notes(headers: &Memory<'_>, count: u64) -> Option<usize>
     ensures found { result ≡ find_notes headers.now count }
@@ -114,7 +114,7 @@ fn find_notes(headers: &Memory<'_>, count: u64) -> Option<usize>
     (0..count).find(|i| is_of_notes(headers, *i))
 }
 
-/// Returns the notes of program header number `i` of an object.
+/// Returns the notes that program header number `i` of an object describes.
 fn notes_by<'a>(base: u64, own: &'a [Segment], headers: &Memory<'_>, i: usize) -> Memory<'a>
     requires small { length headers.now < 2 ^ 32 }
     requires within { i < length headers.now / 56 }
@@ -125,8 +125,8 @@ fn notes_by<'a>(base: u64, own: &'a [Segment], headers: &Memory<'_>, i: usize) -
     first_bytes(&section_memory(base, own, Some(place)), size)
 }
 
-/// Returns the notes of an object. If none of its program headers describes notes that are read,
-/// returns no bytes.
+/// Returns the notes of an object, or no bytes if none of its program headers describes notes that
+/// this module reads.
 fn notes_of<'a>(object: &ImageObject, own: &'a [Segment]) -> Memory<'a>
     ensures { result ≡ notes_of object.now own.now }
 {
@@ -137,8 +137,8 @@ fn notes_of<'a>(object: &ImageObject, own: &'a [Segment]) -> Memory<'a>
     }
 }
 
-/// Returns whether the program has the calls note, which says that the program itself calls the
-/// functions that a loader would call.
+/// Returns whether the program has the calls note: whether the program itself calls the functions
+/// that a loader would call.
 pub(crate) fn calls_itself(image: &Image) -> bool
     ensures { result ≡ calls_itself image.now }
 {

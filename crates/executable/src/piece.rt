@@ -39,7 +39,7 @@ pub(crate) fn is_both(flags: u32) -> bool
     flags & PF_WX == PF_WX
 }
 
-/// Returns the number of bytes without the zeros at the end of `bytes`.
+/// Returns the length of `bytes` without the zeros at their end.
 fn length_without_zeros(bytes: &[u8]) -> usize
     ensures bound { result ≤ length bytes.now }
     ensures kept { take result bytes.now ≡ without_zeros bytes.now }
@@ -73,7 +73,7 @@ impl Model for Piece {
 }
 
 impl Piece {
-    /// Makes a piece of the whole segment.
+    /// Makes a piece of a whole segment.
     pub(crate) fn of(alloc: Global, segment: &Segment) -> Result<Piece, AllocError>
         ensures { IfOk result (λ piece. piece ≡ piece_of segment.now) }
     {
@@ -109,7 +109,7 @@ impl Piece {
         self.size
     }
 
-    /// The bytes that are in the file.
+    /// The bytes of the piece that the file has.
     pub(crate) fn contents(&self) -> &[u8]
         ensures { result.now ≡ self.now.contents }
     {
@@ -133,7 +133,7 @@ impl Piece {
         page_of(other.address) < self.end()
     }
 
-    /// Returns whether this piece continues in `other`, which comes after it. Then one program
+    /// Returns whether this piece continues in `other`, which comes after it, so that one program
     /// header can load both.
     pub(crate) fn goes_on(&self, other: &Piece) -> bool
         requires short { IsShort self.now }
@@ -160,8 +160,8 @@ impl Piece {
         Ok(())
     }
 
-    /// Splits this piece at address `at`, and returns the part from there on. All bytes of the
-    /// piece must be in its contents.
+    /// Splits this piece at address `at`, and returns the part from `at` on. All bytes of the piece
+    /// must be in its contents.
     pub(crate) fn split_off(&mut self, at: u64) -> Result<Piece, AllocError>
         requires full { IsFull self.old }
         requires from { self.old.heading.address ≤ at }
@@ -182,8 +182,8 @@ impl Piece {
         Ok(rest)
     }
 
-    /// Returns the piece in the form in which the file has it. If the piece may be written, the
-    /// zeros at its end are left out.
+    /// Returns the piece as the file has it. If the piece may be written, its contents end before
+    /// the zeros at their end.
     pub(crate) fn finish(mut self) -> Piece
         ensures { result ≡ finished self }
     {

@@ -1,4 +1,4 @@
-// Makes the pieces of segments. `merging` then joins each piece that continues in the next one.
+// Makes pieces of segments. After that, `merging` joins each piece that continues in the next one.
 
 ghost use Rattle.std.specs.Prelude.{◌≡◌, ◌+◌, ◌<◌, ◌≤◌, ◌++◌, ◌∷◌, IfOk, OnOk, List};
 ghost use Rattle.std.specs.Prelude.{length, map};
@@ -64,8 +64,8 @@ fn put_page(
     Ok(rest)
 }
 
-/// Makes the pieces of `piece` and of `next`, which comes after `piece`. Appends all these pieces
-/// except the last one to `done`, and returns the last one.
+/// Makes the pieces of `piece` and of `next`, which comes after it. Appends all these pieces except
+/// the last one to `done`, and returns the last one.
 fn put(done: &mut Vec<Piece>, piece: Piece, next: Piece) -> Result<Piece, AllocError>
     requires full { IsFull piece }
     requires next_full { IsFull next }
@@ -86,9 +86,9 @@ fn put(done: &mut Vec<Piece>, piece: Piece, next: Piece) -> Result<Piece, AllocE
     put_page(done, upper, next, page)
 }
 
-/// Makes the piece of a segment that has bytes. If there is a last piece, `last`, makes the pieces
-/// of `last` and of the new piece. Appends all these pieces except the last one to `done`, and
-/// returns the last one.
+/// Makes the piece of a segment that has bytes. If there is a piece `last`, makes the pieces of
+/// `last` and of the new piece. Appends all these pieces except the last one to `done`, and returns
+/// the last one.
 fn add(
     alloc: Global,
     done: &mut Vec<Piece>,
@@ -112,7 +112,7 @@ fn add(
     }
 }
 
-/// Returns the finished pieces of segments. Makes one pass over the segments, which copies their
+/// Returns the finished pieces of segments. Makes one pass over the segments, and copies their
 /// bytes.
 pub(crate) fn cut_pieces(alloc: Global, segments: &[Segment]) -> Result<Vec<Piece>, AllocError>
     requires { AreRising 0 segments.now }

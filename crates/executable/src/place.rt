@@ -13,7 +13,7 @@ use crate::piece::{Piece, page_of};
 pub(crate) const PAGE: u64 = 4096;
 /// The highest address at which memory may end: a page below 2^47.
 pub(crate) const MEMORY_LIMIT: u64 = 0x7fff_ffff_f000;
-/// The lowest address that the kernel allows a process to map unless the process runs as root.
+/// The lowest address that the kernel lets a process map, unless the process runs as root.
 const LOWEST: u64 = 0x10000;
 /// The maximum number of program headers that the kernel accepts.
 pub(crate) const MOST_HEADERS: usize = 1170;
@@ -26,7 +26,7 @@ pub(crate) fn headers_size(count: usize) -> u64
     64 + 56 * count as u64
 }
 
-/// Returns the number of padding bytes that extend `size` bytes to whole pages.
+/// Returns the number of bytes from `size` to the next multiple of the size of a page.
 pub(crate) fn padding(size: u64) -> u64
     ensures { result ≡ (PAGE - size % PAGE) % PAGE }
 {
@@ -41,8 +41,8 @@ pub(crate) fn whole_pages(size: u64) -> u64
     size + padding(size)
 }
 
-/// Returns the address of the first page that is below neither `end` nor `LOWEST`. Returns `None`
-/// if `room` bytes from there would end above the limit.
+/// Returns the address of the first page that is below neither `end` nor `LOWEST`, or `None` if
+/// `room` bytes from there would end above the limit.
 fn place_above(end: u64, room: u64) -> Option<u64>
     requires end { end ≤ MEMORY_LIMIT }
     requires room { room ≤ MEMORY_LIMIT }

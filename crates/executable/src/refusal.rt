@@ -1,30 +1,31 @@
-// Why a bound program isn't written as an executable file.
+// The reasons why a bound program isn't written as an executable file.
 
 use names::Name;
 use std::alloc::AllocError;
 use thiserror::Error;
 
-/// Why an image isn't written as an executable file. The variants are in the order of the tests.
+/// The reason why an image isn't written as an executable file. The variants are in the order of
+/// the tests.
 #[derive(Debug, Drop, PartialEq, Eq, Error)]
 pub enum ExecutableRefusal {
-    /// `e_entry` is 0, or isn't in a segment of the program itself that may be executed.
+    /// `e_entry` is 0, or isn't in an executable segment of the program itself.
     #[error("the program has no entry in code of its own")]
     NoEntry,
     /// The program is a static PIE: it has DF_1_PIE, and no PT_INTERP.
     #[error("the program relocates itself, for which it looks for what the file lacks")]
     StaticPie,
-    /// The program has a DT_PREINIT_ARRAY with entries, and no note that the program itself calls
+    /// The program has a DT_PREINIT_ARRAY with entries, but no note that the program itself calls
     /// these functions.
     #[error("the program has pre-initializers, which nobody would run")]
     PreInitializers,
-    /// A library has a DT_INIT, or a DT_INIT_ARRAY with entries, and the program has no note that
+    /// A library has a DT_INIT, or a DT_INIT_ARRAY with entries, but the program has no note that
     /// the program itself calls such functions.
     #[error("a library has initializers, which nobody would run")]
     Initializers {
         /// The library's name.
         name: Name,
     },
-    /// A library has a DT_FINI, or a DT_FINI_ARRAY with entries, and the program has no note that
+    /// A library has a DT_FINI, or a DT_FINI_ARRAY with entries, but the program has no note that
     /// the program itself calls such functions.
     #[error("a library has finalizers, which nobody would run")]
     Finalizers {

@@ -13,7 +13,7 @@ pub(crate) fn holds(segment: &Segment, address: u64) -> bool
     segment.address() <= address && address - segment.address() < segment.memory().len() as u64
 }
 
-/// Returns the first `count` segments, or all if there are fewer, and the segments after them.
+/// Returns the first `count` segments (or all, if there are fewer), and the segments after them.
 #[tactic(auto, using(std::proofs::lemmas::List::take_min))]
 pub(crate) fn split(segments: &[Segment], count: usize) -> (&[Segment], &[Segment])
     ensures own { result.0.now ≡ take count segments.now }

@@ -9,7 +9,7 @@ use crate::segments::split;
 use elf_file::u32_at;
 use image::{Image, Memory};
 
-/// The tag of an object's flags, in `d_tag`, and the flag of a position-independent executable.
+/// The tag, in `d_tag`, of an object's flags; and the flag of a position-independent executable.
 const DT_FLAGS_1: u64 = 0x6fff_fffb;
 
 const DF_1_PIE: u64 = 0x0800_0000;
@@ -42,8 +42,8 @@ fn is_pie(section: &Memory<'_>) -> bool
         .any(|e| e.tag == DT_FLAGS_1 && e.value & DF_1_PIE != 0)
 }
 
-/// Returns whether one of the first `count` program headers has type `kind`. Only headers that are
-/// completely in `memory` count.
+/// Returns whether one of the first `count` program headers has the type `kind`. Reads only headers
+/// that are completely in `memory`.
 #[tactic(auto, unfolding(crate::specs::StaticPie::has_header))]
 fn has_header(memory: &Memory<'_>, count: u64, kind: u32) -> bool
     ensures { result ≡ has_header memory.now count kind }

@@ -1,4 +1,4 @@
--- Which lists of extents a file could get in a layout.
+-- The lists of extents that a file could get in a layout.
 use Rattle.std.specs.Prelude.{◌≤◌, Bool, List, length, All, AllPairs}
 use Rattle.extents.specs.declared.extent.Extent.{Extent}
 use Rattle.extents.specs.Extent.{IsApart}

@@ -6,8 +6,8 @@ use std::alloc::{AllocError, Global};
 use std::marker::Model;
 
 /// The unused runs of a disk, from the lowest to the highest. Most changes are among the lowest
-/// runs. So a removed run may leave a vacant place in front of all others, and an added run may
-/// fill it.
+/// runs. For this reason, a removed run may leave a vacant place before all runs, and an added run
+/// may fill such a place.
 #[derive(Drop)]
 pub(crate) struct RunList {
     // The vacant places, followed by the runs.
@@ -62,8 +62,8 @@ impl RunList {
         self.list[self.vacant + place] = run;
     }
 
-    /// Removes the run at `place`. Either the runs below it move up, or the runs above it move
-    /// down, whichever are fewer.
+    /// Removes the run at `place`. Moves the runs below it up, or the runs above it down, whichever
+    /// are fewer.
     pub(crate) fn remove(&mut self, place: usize)
         requires { place < length self.old.items }
         ensures items { self.new.items
@@ -80,8 +80,8 @@ impl RunList {
         }
     }
 
-    /// Inserts `run` at `place`. Either the runs below it move down, or the runs above it move up.
-    /// If there is room on both sides, the fewer runs move.
+    /// Inserts `run` at `place`. Moves the runs below it down, or the runs above it up. If there is
+    /// room on both sides, moves the side with fewer runs.
     pub(crate) fn insert(&mut self, place: usize, run: Extent)
         requires within { place ≤ length self.old.items }
         requires room { length self.old.items < self.old.capacity }

@@ -12,9 +12,9 @@ use crate::limits::ROOT_SECTORS;
 use crate::run_list::RunList;
 use std::alloc::{AllocError, Global};
 
-/// Returns the unused runs of a disk of `sectors` sectors on which no sector is claimed. There is
-/// one run if the disk has a sector after the roots, and otherwise none. There is room for as many
-/// runs as the disk can have.
+/// Returns the unused runs of a disk of `sectors` sectors on which no sector is claimed: one run if
+/// the disk has a sector after the roots, and otherwise none. Reserves room for the maximum number
+/// of runs on the disk.
 pub(crate) fn one_run(alloc: Global, sectors: u32) -> Result<RunList, AllocError>
     ensures items { IfOk result (λ runs.
         runs.items ≡ some_of root_sectors (sectors - root_sectors)) }
@@ -34,7 +34,7 @@ pub(crate) fn one_run(alloc: Global, sectors: u32) -> Result<RunList, AllocError
     Ok(runs)
 }
 
-/// Returns the number of runs that end at `sector` or before it, by binary search.
+/// Returns the number of runs that end at or before `sector`. Makes a binary search.
 pub(crate) fn place_of(runs: &[Extent], sector: u32) -> usize
     requires { IsRising runs.now }
     ensures within { result ≤ length runs.now }
@@ -46,7 +46,7 @@ pub(crate) fn place_of(runs: &[Extent], sector: u32) -> usize
 }
 
 /// Removes the sectors of `extent` from the run at `place`, which has all of them. The parts of the
-/// run before and after the extent stay. If nothing is left of the run, it is removed.
+/// run before and after the extent stay. If no part is left, removes the run.
 pub(crate) fn cut(runs: &mut RunList, place: usize, extent: Extent)
     requires within { place < length runs.old.items }
     requires front { (slice_index_or runs.old.items place extent).start ≤ extent.start }
@@ -89,8 +89,8 @@ pub(crate) fn cut(runs: &mut RunList, place: usize, extent: Extent)
     }
 }
 
-/// Returns the number of sectors of the run before `place`, if that run ends right before `sector`;
-/// otherwise 0.
+/// Returns the number of sectors of the run before `place` if that run ends directly before
+/// `sector`, and otherwise 0.
 pub(crate) fn count_before(runs: &[Extent], place: usize, sector: u32) -> u32
     requires { place ≤ length runs.now }
     ensures none { result ≡ 0 → 0 < place → (d : Extent) →
@@ -111,9 +111,9 @@ pub(crate) fn count_before(runs: &[Extent], place: usize, sector: u32) -> u32
     }
 }
 
-/// Returns the number of sectors of the run at `place`, if that run begins at `sector`; otherwise
-/// 0.
-pub(crate) fn count_behind(runs: &[Extent], place: usize, sector: u32) -> u32
+/// Returns the number of sectors of the run at `place` if that run begins at `sector`, and
+/// otherwise 0.
+pub(crate) fn count_after(runs: &[Extent], place: usize, sector: u32) -> u32
     requires { place ≤ length runs.now }
     ensures none { result ≡ 0 → place < length runs.now → (d : Extent) →
         let run = slice_index_or runs.now place d in (run.start ≡ sector) → run.count ≡ 0 }
@@ -128,9 +128,9 @@ pub(crate) fn count_behind(runs: &[Extent], place: usize, sector: u32) -> u32
     if run.start == sector { run.count } else { 0 }
 }
 
-/// Inserts `extent` into the runs at `place`, and joins it to adjacent runs. `left` is the length
-/// of the run that ends where `extent` begins, and `right` the length of the run that begins where
-/// it ends. Each is 0 if there is no such run.
+/// Inserts `extent` at `place` into the runs, and joins it to adjacent runs. `left` is the length
+/// of the run that ends where `extent` begins, and `right` is the length of the run that begins
+/// where `extent` ends. Each is 0 if there is no such run.
 pub(crate) fn join(runs: &mut RunList, place: usize, extent: Extent, left: u32, right: u32)
     requires before { min left 1 ≤ place }
     requires behind { place + min right 1 ≤ length runs.old.items }
@@ -168,7 +168,7 @@ fn longer(first: Extent, run: Extent) -> Extent
     if first.count < run.count { run } else { first }
 }
 
-/// Returns the first of the longest runs, after one pass over the runs.
+/// Returns the first of the longest runs. Makes one pass over the runs.
 pub(crate) fn longest_run(runs: &[Extent]) -> Option<Extent>
     ensures { IfSome result (λ run. (others : List Extent)
         × (longest_first runs.now ≡ run ∷ others)) }
@@ -183,9 +183,9 @@ pub(crate) fn longest_run(runs: &[Extent]) -> Option<Extent>
     Some(longest)
 }
 
-/// Returns the longest runs, at most as many as a file may have extents, the longest first. The
-/// call makes one pass over the runs. It compares each run with only a bounded number of the runs
-/// that are kept so far.
+/// Returns the longest runs, the longest first, but at most as many as a file may have extents.
+/// Makes one pass over the runs. Compares each run with only a limited number of the longest runs
+/// so far.
 pub(crate) fn longest_of(runs: &[Extent]) -> Extents
     ensures { result ≡ take most_extents (longest_first runs.now) }
 {

@@ -12,8 +12,8 @@ or_else (Some content) other = content
 or_else None other = other
 
 module _ {F : Type 0} {g : Ghosts F} where
-  -- the content that reads return for sector k: that in the write buffer if there is one, and otherwise
-  -- that in the file
+  -- the content that reads return for sector k: that in the write buffer, or, if the write buffer
+  -- doesn't have the sector, that in the file
   abbrev pub shown_at : Buffered F g → ℕ → Sector
   shown_at buffered k = or_else (write_buffer_at buffered.write_buffer k) (sector (g.facts buffered.file).now k)
 

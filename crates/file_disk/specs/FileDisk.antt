@@ -12,23 +12,24 @@ use Rattle.file_disk.specs.WriteBuffer.{write_buffer_at}
 use Rattle.file_disk.specs.Left.{LeftOf, shown_of, time_at}
 use Rattle.file_disk.specs.SectorFile.{FileFacts, MayHave, MediumAt, IsCounted, IsFoundWith}
 
--- Why no disk is made over a file: memory was refused, or the file's sectors couldn't be counted. In the second case
--- the failed count left the file `after`.
+-- The reason why no disk is made over a file: memory was refused, or the file's sectors couldn't be
+-- counted. In the second case, the file is `after` once the count has failed.
 abbrev pub HasCause : {F : Type 0} → (F → FileFacts) → F → OpenFault → Type 0
 HasCause {F} facts file fault = (fault ≡ OutOfMemory) ⊎ ((after : F) × IsCounted {E = OpenFault} (facts file) (facts after) (Err fault))
 
--- the disk was at its moment v when its file was at moment u: v is the last moment of the disk whose
--- mark isn't greater than u
+-- the disk was at its moment v when its file was at its moment u: v is the last moment of the disk
+-- whose mark is at most u
 pub record IsMomentAt (disk : DiskFacts) (u v : ℕ) : Type 0 where
   pub up_to : v ≤ disk.time
   pub reached : disk.marks v ≤ u
   pub last : (w : ℕ) → v < w → w ≤ disk.time → u < disk.marks w
 
 module _ {F : Type 0} {g : Ghosts F} where
-  -- For each sector, reads return the content in the write buffer, or otherwise that in the file, as at
-  -- the last moment at which no write or sync had failed. A stop may leave contents from the last
-  -- successful sync, or from after a later write: those in the write buffer, and those that the file's
-  -- medium might have had. The mark of a moment is the file's time at that moment.
+  -- For each sector, reads return the content that they returned at the last moment at which no
+  -- write or sync had failed: that in the write buffer, or otherwise that in the file. A stop may
+  -- leave the contents from the moment of the last successful sync, or from after a later write:
+  -- those in the write buffer, and those that the file's medium might have had. The mark of a
+  -- moment is the file's time at that moment.
   abbrev pub file_facts : FileDisk F g → DiskFacts
   file_facts disk = record {
     honest = g.is_honest;
@@ -42,7 +43,7 @@ module _ {F : Type 0} {g : Ghosts F} where
     may_leave = λ u k c. LeftOf (slice_index_or disk.past.items u disk.since).items k c;
   }
 
-  -- whether a write or a sync has failed
+  -- a write or a sync has failed
   abbrev pub has_failed : FileDisk F g → Bool
   has_failed disk = disk.buffered.failed
 
@@ -54,7 +55,7 @@ module _ {F : Type 0} {g : Ghosts F} where
   abbrev pub facts_below : FileDisk F g → FileFacts
   facts_below disk = g.facts disk.buffered.file
 
-  -- the content of sector k in the write buffer: it was written, and isn't written to the file yet
+  -- the content of sector k in the write buffer, which hasn't been written to the file yet
   abbrev pub waiting : FileDisk F g → ℕ → Option Sector
   waiting disk k = write_buffer_at disk.buffered.write_buffer k
 
@@ -97,34 +98,37 @@ module _ {F : Type 0} {g : Ghosts F} where
     pub medium : (k : ℕ) (c : Sector) → MayHave (facts_below disk) k c → MayLeave (file_facts disk) k c
     pub only : (k : ℕ) (c : Sector) → MayLeave (file_facts disk) k c → ∥ MayHave (facts_below disk) k c ∥₁
 
-  -- A disk that was made over a file: the file's sectors were counted, and nothing else was done with the
-  -- file. The disk has as many sectors as the file, and reads return the contents that the file had.
+  -- A disk that was made over a file: the file's sectors were counted, and no other call of the
+  -- file was made. The disk has as many sectors as the file, and reads return the contents that the
+  -- file had.
   pub record IsOver (file : F) (disk : FileDisk F g) : Type 0 where
     pub counted : IsCounted {E = OpenFault} (g.facts file) (facts_below disk) (Ok (file_facts disk).sectors)
     pub sectors : (file_facts disk).sectors ≡ (g.facts file).sectors
     pub now : (k : ℕ) → sector (file_facts disk).now k ≡ sector (g.facts file).now k
 
-  -- if the file is found with the sectors `contents`, the disk starts with these sectors
+  -- if the file is found with the sectors `contents` after a stop, the disk starts with these
+  -- sectors
   abbrev pub StartsAsFound : F → FileDisk F g → Type 0
   StartsAsFound file disk = (contents : List Sector) → IsFoundWith (g.facts file) contents → StartsWith (file_facts disk) contents
 
-  -- Let `m` be a list of sectors that the file's medium may have at a moment of the file from `old` to
-  -- `new`. Then a stop of the disk might have left `m` at some moment since `old`.
+  -- If the file's medium may have the list of sectors `m` at a moment of the file from `old` to
+  -- `new`, a stop of the disk might have left `m` at some moment since `old`.
   pub record IsCovered (old new : FileDisk F g) : Type 0 where
     pub each : (u : ℕ) (m : List Sector) → (facts_below old).time ≤ u → u ≤ (facts_below new).time
         → MediumAt (facts_below new) u m → LeftSince (file_facts new) (file_facts old).time m
 
-  -- The mark of the present moment is the file's time. Let `u` be a moment of the file, from the mark of a
-  -- moment `since` of the disk on. Let `m` be a list of sectors that the file's medium may have had at `u`.
-  -- Then a stop might have left `m` at the moment at which the disk was when its file was at `u`.
+  -- The mark of the present moment is the file's time. If the file's medium may have had the list
+  -- of sectors `m` at a moment `u` of the file, which isn't before the mark of a moment `since` of
+  -- the disk, then a stop might have left `m` at the moment at which the disk was when its file was
+  -- at `u`.
   pub record FollowsTheFile (disk : FileDisk F g) : Type 0 where
     pub now : (file_facts disk).marks (file_facts disk).time ≡ (facts_below disk).time
     pub each : (since u : ℕ) (m : List Sector) → since ≤ (file_facts disk).time → (file_facts disk).marks since ≤ u → u ≤ (facts_below disk).time
         → MediumAt (facts_below disk) u m → (v : ℕ) × IsMomentAt (file_facts disk) u v × MixtureAt (file_facts disk) v m
 
-  -- Let `P` hold for every list of sectors that a stop of the disk may leave between the moments of `old`
-  -- and `new`. Then `P` also holds for every list of sectors that the file's medium may have at any moment
-  -- of the file in this time.
+  -- If `P` holds of every list of sectors that a stop of the disk may leave between the moments of
+  -- `old` and `new`, then `P` also holds of every list of sectors that the file's medium may have
+  -- at any moment of the file in this time.
   abbrev pub HoldsOfTheMedium : FileDisk F g → (List Sector → Type 0) → Type 0
   HoldsOfTheMedium new P = (old : FileDisk F g) → LeavesOnly (file_facts old) (file_facts new) P
       → (u : ℕ) (m : List Sector) → (facts_below old).time ≤ u → u ≤ (facts_below new).time → MediumAt (facts_below new) u m → P m

@@ -8,8 +8,8 @@ use Rattle.file_disk.specs.declared.sector_file.SectorFile.{Ghosts}
 use Rattle.file_disk.specs.Buffered.{shown_at, Leaves}
 
 module _ {F : Type 0} {g : Ghosts F} where
-  -- a content of sector k that was in the write buffer, or that the file's medium might have had, at one of these
-  -- moments
+  -- at one of these moments, the write buffer had the content for sector k, or the file's medium
+  -- might have had it there
   abbrev pub LeftOf : List (Buffered F g) → ℕ → Sector → Type 0
   LeftOf since k c = ∥ ((s : Buffered F g) × Contains since s × Leaves s k c) ∥₁
 
@@ -26,8 +26,8 @@ module _ {F : Type 0} {g : Ghosts F} where
   abbrev pub IsTimed : List (Buffered F g) → Buffered F g → ℕ → Type 0
   IsTimed files b now = (v : ℕ) → v ≤ now → time_at files b v ≤ (g.facts b.file).time
 
-  -- A stop at a moment may leave every content that the medium might have had between the file's time at
-  -- this moment and the file's time at the next one.
+  -- A stop at a moment may leave each content that the medium might have had from the file's time
+  -- at this moment to the file's time at the next moment.
   abbrev pub IsFollowed : List (Buffered F g) → Buffered F g → List (Past (Buffered F g)) → Past (Buffered F g) → ℕ → Type 0
   IsFollowed files b past since now = (v u k : ℕ) (c : Sector) → v ≤ now → time_at files b v ≤ u → u ≤ time_at files b (v + 1)
       → (g.facts b.file).may_have u k c → LeftOf (slice_index_or past v since).items k c

@@ -11,8 +11,9 @@ use Rattle.file_disk.specs.declared.memory_file.CallOutcome.{CallOutcome}
 use Rattle.file_disk.specs.Medium.{HasWritten, IsWholeUnlessFailed}
 use Rattle.file_disk.specs.SectorFile.{FileFacts}
 
--- The facts of a file over a disk in memory, which was in the states `past` at the past moments. At each
--- moment the medium may have the contents that a stop of the disk at that moment may leave.
+-- The facts of a file over a disk in memory, which was in the states `past` at the past moments. At
+-- each moment, the file's medium may have the contents that a stop of the disk may leave at that
+-- moment.
 abbrev pub facts_over : Memory → List Memory → ℕ → Bool → FileFacts
 facts_over medium past failures sync_failed = record {
   sectors = (memory_facts medium).sectors;
@@ -27,17 +28,17 @@ facts_over medium past failures sync_failed = record {
 abbrev pub memory_file_facts : MemoryFile → FileFacts
 memory_file_facts file = facts_over file.medium file.past.items (calls_failed file.calls) file.sync_failed
 
--- the disk under the file: it has the written contents, and determines the contents that the medium may
--- have
+-- the disk under the file, which has the written contents, and which determines the contents that
+-- the medium may have
 abbrev pub medium_of : MemoryFile → Memory
 medium_of file = file.medium
 
--- the plan of a file: which of its calls doesn't do everything that it was asked for
+-- the plan of a file: the call that fails or moves only some of its sectors
 abbrev pub plan_of : MemoryFile → FilePlan
 plan_of file = file.plan
 
--- the outcome of call n: that of the plan if n is the planned call; a failure that moves nothing if n is
--- a later call and `forever` is true; otherwise the call passes
+-- the outcome of call n: that of the plan if n is the planned call; a failure that moves nothing if
+-- n is a later call and `forever` is true; and otherwise success
 abbrev pub outcome_of : FilePlan → ℕ → CallOutcome
 outcome_of plan n =
     if n == plan.call
@@ -53,12 +54,12 @@ pub record HasOutcome {T E : Type 0} (old new : MemoryFile) (result : Result T E
   pub fails : is_err result ≡ (next_outcome old).fails
   pub plan : plan_of new ≡ plan_of old
 
--- A read that succeeds moves all requested sectors, or as many as its outcome allows if these are fewer.
+-- A successful read moves all requested sectors, or only as many as its outcome allows.
 pub record IsMoved {E : Type 0} (old : MemoryFile) (asked : ℕ) (result : Result ℕ E) : Type 0 where
   pub count : IfOk result (λ count. count ≡ min (next_outcome old).most asked)
 
--- A write has written as many sectors as its outcome allows, or fewer if a write of the disk failed for lack of memory.
--- If it succeeds, it returns their number.
+-- A write has written as many sectors as its outcome allows, or fewer if memory for the disk was
+-- refused. If it succeeds, it returns their number.
 pub record IsCutWrite {E : Type 0} (old new : MemoryFile) (at : ℕ) (given : List Sector) (result : Result ℕ E) : Type 0 where
   pub count : ℕ
   pub few : count ≤ min (next_outcome old).most (length given)
@@ -66,8 +67,8 @@ pub record IsCutWrite {E : Type 0} (old new : MemoryFile) (at : ℕ) (given : Li
   pub ok : IfOk result (λ n. n ≡ count)
   pub written : HasWritten at given count (memory_facts (medium_of old)) (memory_facts (medium_of new))
 
--- whether a sync with this outcome does its work: no sync has failed before, and this sync doesn't fail
--- early
+-- a sync with this outcome brings everything to the medium: no sync has failed before, and this
+-- sync doesn't fail early
 abbrev pub does_work : MemoryFile → CallOutcome → Bool
 does_work file outcome = if file.sync_failed then false else (if outcome.fails then nat_lt 0 outcome.most else true)
 

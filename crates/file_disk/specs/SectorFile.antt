@@ -20,7 +20,8 @@ pub record FileFacts : Type 1 where
 abbrev pub MayHave : FileFacts → ℕ → Sector → Type 0
 MayHave file k c = file.may_have file.time k c
 
--- the medium may have the sectors `m` at this moment: each sector, by itself, has a content of its set
+-- the medium may have the sectors `m` at this moment: each sector, independently of the others, has
+-- a content of its set
 pub record MediumAt (file : FileFacts) (moment : ℕ) (m : List Sector) : Type 0 where
   pub size : length m ≡ file.sectors
   pub each : (k : ℕ) → k < file.sectors → file.may_have moment k (sector m k)
@@ -30,12 +31,12 @@ abbrev pub moved : {E : Type 0} → Result ℕ E → ℕ
 moved (Ok n) = n
 moved (Err e) = 0
 
--- for some i, sector k is sector `at + i`, and c is content number i of `given`
+-- `given` is written from sector `at` on, and c is the content that it has for sector k
 abbrev pub IsGivenTo : ℕ → List Sector → ℕ → Sector → Type 0
 IsGivenTo at given k c = (i : ℕ) × (i < length given) × (k ≡ at + i) × (c ≡ sector given i)
 
--- One call: the time is greater by one, and a failure is counted. The number of sectors stays the same. So
--- do the contents that the medium might have had at each earlier moment.
+-- One call: the time is greater by one, and a failure is counted. The number of sectors, and the
+-- contents that the medium might have had at each earlier moment, stay the same.
 pub record IsFileCall (failed : Bool) (old new : FileFacts) : Type 0 where
   pub sectors : new.sectors ≡ old.sectors
   pub time : new.time ≡ old.time + 1
@@ -54,34 +55,34 @@ pub record IsCounted {E : Type 0} (old new : FileFacts) (result : Result ℕ E) 
   pub now : old.sync_failed ≡ false → new.now ≡ old.now
   pub ok : IfOk result (λ sectors. sectors ≡ old.sectors)
 
--- A read changes nothing, and the sectors that it moved have the contents that were written last. A read
--- that moves no sector has failed. After a failed sync, nothing is stated about the contents that reads
--- return.
+-- A read changes nothing. The sectors that it moved have the contents that were written last. A
+-- read that moves no sector has failed. After a failed sync, this record states nothing about the
+-- contents that reads return.
 pub record IsFileRead {E : Type 0} (old new : FileFacts) (at : ℕ) (into : List Sector) (result : Result ℕ E) : Type 0 where
   pub call : IsFileCall (moved result == 0) old new
   pub same : HasNoMore old new
   pub now : old.sync_failed ≡ false → new.now ≡ old.now
   pub moved : old.sync_failed ≡ false → (i : ℕ) → i < moved result → sector into i ≡ sector old.now (at + i)
 
--- each sector has its old content, or the one that was given for it; the first `count` of the given
--- sectors have the given content
+-- each sector has its old content or its given content; the first `count` of the given sectors have
+-- their given content
 pub record IsOldOrGiven (at : ℕ) (given : List Sector) (count : ℕ) (old new : List Sector) : Type 0 where
   pub size : length new ≡ length old
   pub either : (k : ℕ) → (sector new k ≡ sector old k) ⊎ IsGivenTo at given k (sector new k)
   pub moved : (i : ℕ) → i < count → sector new (at + i) ≡ sector given i
 
--- A write that was complete, short or failed. For each given sector, reads return the old content or the
--- given one. For the sectors that the write moved, they return the given one. The set of a sector grows
--- at most by the content that was given for this sector. A write that moves no sector has failed.
+-- A write that was complete, short or failed. For each given sector, reads return the old content
+-- or the given one. For the sectors that the write moved, they return the given one. The set of a
+-- sector grows at most by its given content. A write that moves no sector has failed.
 pub record IsFileWrite {E : Type 0} (old new : FileFacts) (at : ℕ) (given : List Sector) (result : Result ℕ E) : Type 0 where
   pub call : IsFileCall (moved result == 0) old new
   pub sync_failed : new.sync_failed ≡ old.sync_failed
   pub medium : (k : ℕ) (c : Sector) → MayHave new k c → MayHave old k c ⊎ IsGivenTo at given k c
   pub now : old.sync_failed ≡ false → IsOldOrGiven at given (moved result) old.now new.now
 
--- A sync. No sector's set grows. If the sync succeeds, and no sync has failed before, the set of each
--- sector contains only the content that reads return for this sector. After a failed sync, a later sync
--- isn't guaranteed to make any set smaller.
+-- A sync. No sector's set grows. If the sync succeeds, and no sync has failed before, the set of
+-- each sector contains only the content that reads return for this sector. After a failed sync,
+-- later syncs needn't make any set smaller.
 pub record IsFileSync {T E : Type 0} (old new : FileFacts) (result : Result T E) : Type 0 where
   pub call : IsFileCall (is_err result) old new
   pub medium : (k : ℕ) (c : Sector) → MayHave new k c → MayHave old k c
@@ -95,8 +96,8 @@ pub record HoldsWhatIsRead (file : FileFacts) : Type 0 where
   pub size : length file.now ≡ file.sectors
   pub each : (k : ℕ) → k < file.sectors → MayHave file k (sector file.now k)
 
--- A file as it is found after a stop: reads return the sectors `contents`, the medium has exactly these
--- contents, and no sync has failed since the stop.
+-- A file that is found after a stop: reads return the sectors `contents`, the medium has exactly
+-- these contents, and no sync has failed since the stop.
 pub record IsFoundWith (file : FileFacts) (contents : List Sector) : Type 0 where
   pub sectors : file.sectors ≡ length contents
   pub now : file.now ≡ contents

@@ -1,4 +1,5 @@
--- How the two buffers are kept apart, and several calls in a row. A reader needn't check these definitions.
+-- The condition for the two buffers, and sequences of calls. A reader needn't check these
+-- definitions.
 pub mod Apart
 pub mod Buffered
 pub mod FileDiskLaws

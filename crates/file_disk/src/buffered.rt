@@ -18,12 +18,12 @@ pub(crate) struct Buffered<F: SectorFile> {
     pub(crate) sectors: u32,
     pub(crate) write_buffer: WriteBuffer,
     pub(crate) read_ahead: ReadAhead,
-    // Whether a write or a sync has failed. From then on no call of the file is made.
+    // Whether a write or a sync has failed. If so, no call of the file is made any more.
     pub(crate) failed: bool,
-    // Whether the file's length was compared with the disk's since the file was opened or last
+    // Whether the file's length has been compared with the disk's since the file was opened or last
     // synced.
     compared: bool,
-    // The read-ahead buffer never keeps a content that a write has replaced.
+    // The read-ahead buffer has no content that a later write replaced.
     ghost apart: { IsApart write_buffer read_ahead },
     ghost few: { sectors < 2 ^ 32 },
     ghost inside: { write_buffer_end write_buffer ≤ sectors },
@@ -71,7 +71,7 @@ impl<F: SectorFile> Buffered<F> {
     ghost use Rattle.file_disk.specs.inside.Buffered.{IsStill, IsFailed, IsRefused, IsWrittenBack, IsRoomy};
     ghost use Rattle.file_disk.specs.inside.Buffered.{IsPut, IsSynced};
 
-    /// Returns the file. The write buffer is lost.
+    /// Returns the file. The contents of the write buffer are lost.
     pub(crate) fn into_file(self) -> F
         ensures { result ≡ self.file }
     {
@@ -101,9 +101,9 @@ impl<F: SectorFile> Buffered<F> {
         }
     }
 
-    // Compares the length before the first write after the opening or a sync, so that a truncated
-    // file isn't written. It is also compared before each write that reaches the file's end,
-    // because such a write would hide a truncation from the next sync.
+    // Prevents writes to a truncated file: compares the length before the first write after the
+    // opening or a sync. Also compares it before each write that reaches the file's end, because
+    // such a write would hide a truncation from the next sync.
     fn check_write(&mut self) -> Result<(), DiskFault>
         requires { self.old.failed ≡ false }
         ensures sectors { self.new.sectors ≡ self.old.sectors }
@@ -202,7 +202,7 @@ impl<F: SectorFile> Buffered<F> {
     }
 
     /// Writes the write buffer to the file and syncs the file, so that the medium has all written
-    /// contents. The write buffer keeps its contents until then.
+    /// contents. The write buffer keeps its contents until the sync has succeeded.
     pub(crate) fn sync(&mut self) -> Result<(), DiskFault>
         ensures sectors { self.new.sectors ≡ self.old.sectors }
         ensures read_ahead { self.new.read_ahead ≡ self.old.read_ahead }
@@ -252,8 +252,8 @@ impl<F: SectorFile> Buffered<F> {
         self.read_ahead.fill(&mut self.file, at, most)
     }
 
-    /// Copies the content of sector `at` to `into`. After a failed write or sync, no call of the
-    /// file is made.
+    /// Copies the content of sector `at` to `into`. After a failed write or sync, makes no call of
+    /// the file.
     pub(crate) fn read(&mut self, at: u32, into: &mut [u8; SECTOR_BYTES]) -> Result<(), DiskFault>
         requires inside { at < self.old.sectors }
         ensures sectors { self.new.sectors ≡ self.old.sectors }

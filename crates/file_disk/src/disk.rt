@@ -17,10 +17,10 @@ use std::alloc::{AllocError, Global};
 ///
 /// Written sectors are buffered in memory until a sector is written that doesn't adjoin the
 /// buffered sectors, until 128 KiB are buffered, or until the next sync. Reads return buffered
-/// sectors too. If the disk is dropped, the write buffer is lost, as in a power cut. After a failed
-/// write or sync, all later writes and syncs fail, and so do reads of sectors that aren't in
-/// memory. The reason is that the system may have dropped data that it couldn't write, without
-/// reporting it at the next sync.
+/// sectors too. If the disk is dropped, the contents of the write buffer are lost, as in a power
+/// cut. After a failed write or sync, all later writes and syncs fail, and so do reads of sectors
+/// that aren't in memory. This is because the system may have dropped data that it couldn't write,
+/// and the next sync may not report it.
 #[derive(Drop)]
 pub struct FileDisk<F: SectorFile> {
     buffered: Buffered<F>,
@@ -84,20 +84,20 @@ impl<F: SectorFile + Drop> FileDisk<F> {
 impl<F: SectorFile> FileDisk<F> {
     ghost use Rattle.file_disk.specs.FileDisk.{file_of, FollowsTheFile, HoldsOfTheMedium};
 
-    /// A law. The medium of an honest file has, at every moment, only contents that a stop of the
-    /// disk might have left at that time. This also holds within the disk's calls.
+    /// States a law. At every moment, also within the disk's calls, the medium of an honest file
+    /// has only contents that a stop of the disk might have left at that moment.
     pub fn follows_its_file(&self)
         ensures { IsTrue F.is_honest → FollowsTheFile self.now }
     {}
 
-    /// A law. Suppose a property holds of every list of sectors that a stop of the disk may leave,
-    /// from an earlier moment to now. Then the property holds of every list of sectors that the
-    /// medium of an honest file may have had since that moment.
+    /// States a law. If a property holds of every list of sectors that a stop of the disk may
+    /// leave, from an earlier moment to now, then it holds of every list of sectors that the medium
+    /// of an honest file may have had since that moment.
     pub fn holds_of_its_medium<P: Property>(&self)
         ensures { IsTrue F.is_honest → HoldsOfTheMedium self.now P.holds }
     {}
 
-    /// Returns the file. The write buffer is lost.
+    /// Returns the file. The contents of the write buffer are lost.
     pub fn into_file(self) -> F
         ensures { result ≡ file_of self }
     {
@@ -125,7 +125,7 @@ impl<F: SectorFile> Disk for FileDisk<F> {
         self.buffered.sectors
     }
 
-    /// Reads a sector from the write buffer; otherwise from the read-ahead buffer; otherwise from
+    /// Reads a sector from the first of these that has it: the write buffer, the read-ahead buffer,
     /// the file. A failed read doesn't make later writes and syncs fail.
     fn read(&mut self, at: u32, into: &mut [u8; SECTOR_BYTES]) -> Result<(), DiskFault>
         requires { at < (file_facts self.old).sectors }
@@ -136,13 +136,12 @@ impl<F: SectorFile> Disk for FileDisk<F> {
         // During the call, the file's medium has only contents that a stop of the disk may leave.
         ensures any_moment { IsTrue F.is_honest → IsCovered self.old self.new }
 
-        // The read fails only if a call of the file failed, or if an earlier write or sync had
-        // failed.
+        // The read fails only if a call of the file failed, or if an earlier write or sync failed.
         ensures cause { IsTrue F.is_honest → OnErr result ((has_failed self.old ≡ true)
             ⊎ ((facts_below self.old).failures < (facts_below self.new).failures)) }
 
-        // A read of a sector that is in the write buffer or in the read-ahead buffer succeeds. It
-        // returns the content from the buffer, and makes no call of the file.
+        // A read of a sector that is in one of the two buffers succeeds. It returns the content
+        // from the buffer, and makes no call of the file.
         ensures waiting { IfSome (waiting self.old at)
             (λ content. (is_err result ≡ false) × (into.new ≡ content)) }
         ensures kept { waiting self.old at ≡ None → IfSome (kept self.old at)
@@ -159,8 +158,8 @@ impl<F: SectorFile> Disk for FileDisk<F> {
         reply
     }
 
-    /// Puts a sector into the write buffer. If the buffer has no room for it, the buffer is written
-    /// to the file first. If that fails, so does this call.
+    /// Puts a sector into the write buffer. If the buffer has no room for the sector, first writes
+    /// the buffer to the file, and fails if this fails.
     fn write(&mut self, at: u32, from: &[u8; SECTOR_BYTES]) -> Result<(), DiskFault>
         requires { at < (file_facts self.old).sectors }
         ensures calls { IsCall (file_facts self.old) (file_facts self.new) result }

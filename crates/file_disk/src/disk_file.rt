@@ -12,19 +12,19 @@ use std::io;
 use std::io::{ErrorKind, Seek, SeekFrom};
 use std::os::unix::fs::{FileExt, FileTypeExt};
 
-/// The purpose for which a disk is opened.
+/// The reason why a disk is opened.
 #[derive(Clone, Copy)]
 pub enum Access {
-    /// Only for reading, so that nothing that this process does can write into the file. The lock
-    /// is shared with other readers. Syncs succeed until a sector is written, and fail from then
-    /// on.
+    /// To read the disk. The file is opened only for reading, so this process can't write into it.
+    /// The lock is shared with other readers. Syncs succeed until a sector is written, and fail
+    /// from then on.
     Reading,
-    /// For changes: the lock is held exclusively. If the file may not be written, it is opened only
+    /// To change the disk. The lock is exclusive. If the file may not be written, it is opened only
     /// for reading, and syncs succeed until a sector is written.
     Changes,
 }
 
-/// A regular file or a block device. It is open, and locked until it is dropped.
+/// A regular file or a block device. It stays open and locked until it is dropped.
 #[derive(Drop)]
 pub struct DiskFile {
     file: File,
@@ -33,8 +33,8 @@ pub struct DiskFile {
 }
 
 impl DiskFile {
-    /// Makes a `DiskFile` of a file that is open and locked. Refuses every file that is neither a
-    /// regular file nor a block device.
+    /// Makes a `DiskFile` from an open and locked file. Refuses a file that is neither a regular
+    /// file nor a block device.
     pub(crate) fn new(file: File, is_read_only: bool) -> Result<DiskFile, OpenFault>
         ensures { IfErr result IsLengthFault }
     {
@@ -47,22 +47,22 @@ impl DiskFile {
     }
 
     /// Returns the length in bytes, which is the position of the file's end. The metadata of a
-    /// block device doesn't contain the length, and asking for the metadata of a file takes three
+    /// block device doesn't contain the length, and reading the metadata of a file takes three
     /// times as long.
     fn length(&mut self) -> io::Result<u64> {
         self.file.seek(SeekFrom::End(0))
     }
 }
 
-/// Returns whether a sync failed because the file system can't be written and so has no sync. A
-/// file system that a failure made read-only has a sync, and reports another error.
+/// Returns whether a sync failed because the file system is read-only and has no sync. If a failure
+/// made the file system read-only, it has a sync, and reports another error.
 fn has_no_sync(fault: &io::Error) -> bool {
     fault.kind() == ErrorKind::InvalidInput
 }
 
-/// Returns the number of whole sectors that a call moved, if it moved `bytes` bytes. A part of a
-/// sector counts as none. A call moves such a part if the file ends within the sector, or can't
-/// grow any more.
+/// Returns the number of whole sectors in `bytes`, the number of bytes that a call moved. A call
+/// moves a part of a sector if the file ends within the sector or can't grow any more; this part
+/// isn't counted.
 fn whole_sectors(bytes: usize) -> usize
     ensures { result ≡ bytes / 512 }
 {
@@ -74,7 +74,7 @@ fn place_of(at: u32) -> u64 {
     u64::from(at) * SECTOR_BYTES as u64
 }
 
-/// Nothing is stated about whether a `DiskFile` is honest.
+/// No clause states whether a `DiskFile` is honest.
 impl SectorFile for DiskFile {
     ghost is_honest = { false };
 
@@ -104,8 +104,8 @@ impl SectorFile for DiskFile {
         Ok(whole_sectors(bytes))
     }
 
-    /// Syncs the file. If the file is open only for reading, on a file system that can't be
-    /// written, there is nothing to sync.
+    /// Syncs the file. Succeeds without a sync if the file is open only for reading, on a read-only
+    /// file system, because then there is nothing to sync.
     fn sync(&mut self) -> io::Result<()> {
         match self.file.sync_all() {
             Err(fault) if self.is_read_only && has_no_sync(&fault) => Ok(()),

@@ -1,9 +1,9 @@
 //! A disk of sectors over a file.
 //!
-//! `FileDisk` is a `Disk` over a `SectorFile`. It is honest if the file is honest. Adjacent sectors
-//! are gathered into large writes, and read ahead in large reads. A sync of the disk is a sync of
-//! the file. After a failed write or sync, all later writes and syncs fail until the file is opened
-//! again.
+//! `FileDisk` is a `Disk` over a `SectorFile`. It is honest if the file is honest. It buffers
+//! adjacent sectors and writes them together, and it reads sectors ahead. A sync of the disk is a
+//! sync of the file. After a failed write or sync, all later writes and syncs fail until the file
+//! is opened again.
 #![tactic(auto)]
 
 mod buffered;

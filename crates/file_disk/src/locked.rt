@@ -16,12 +16,13 @@ use std::thread::sleep;
 use std::time::Duration;
 use std::{fs, io};
 
-/// The number of tries to open a file, if other processes replace it before it is locked. Also the
-/// number of tries to make a file under another name, if other processes make and remove that name.
+/// The maximum number of attempts to open a file, if other processes replace it before it is
+/// locked. Also the maximum number of attempts to make a file under another name, if other
+/// processes make and remove that name.
 pub(crate) const TRIES: u32 = 16;
 
-/// The number of tries to lock a device, and the milliseconds between two tries: two seconds in
-/// all. The system's udev locks the device for a moment after each writer has closed it.
+/// The number of attempts to lock a device, and the milliseconds between two attempts: two seconds
+/// in all. The system's udev locks the device for a moment after each writer has closed it.
 const DEVICE_TRIES: u32 = 200;
 
 const PAUSE: u64 = 10;
@@ -35,8 +36,8 @@ fn reading() -> OpenOptions
     how
 }
 
-/// Returns the options to open an existing file for reading and writing. The file isn't created,
-/// and it isn't truncated.
+/// Returns the options to open an existing file for reading and writing, without creating or
+/// truncating it.
 fn writing() -> OpenOptions
     ensures { result ≡ with_write (with_read new_options true) true }
 {
@@ -45,7 +46,7 @@ fn writing() -> OpenOptions
     how
 }
 
-/// Returns whether an error means that writing isn't allowed.
+/// Returns whether an error means that writing isn't permitted.
 fn is_denied(kind: ErrorKind) -> bool {
     matches!(
         kind,
@@ -53,7 +54,7 @@ fn is_denied(kind: ErrorKind) -> bool {
     )
 }
 
-/// Opens a file for `access`, but only for reading if writing isn't allowed. Also returns whether
+/// Opens a file for `access`, or only for reading if writing isn't permitted. Also returns whether
 /// the file is open only for reading.
 fn open_file<R: Files<File = File>>(
     rt: &R,
@@ -75,7 +76,8 @@ pub(crate) fn is_same_file(one: &Metadata, other: &Metadata) -> bool {
     one.dev() == other.dev() && one.ino() == other.ino()
 }
 
-/// Locks a file without waiting: shared with other readers, or exclusively for changes.
+/// Locks a file without waiting: shared with other readers if `access` is for reading, and
+/// exclusively if it is for changes.
 fn try_lock(file: &File, access: Access) -> Result<(), TryLockError> {
     match access {
         Access::Reading => file.try_lock_shared(),
@@ -83,7 +85,8 @@ fn try_lock(file: &File, access: Access) -> Result<(), TryLockError> {
     }
 }
 
-/// Locks a file. For changes to a device, tries for two seconds. In all other cases, tries once.
+/// Locks a file. If the file is a device that is opened for changes, retries for two seconds.
+/// Otherwise makes one attempt.
 fn lock<R: Clock>(rt: &R, file: &File, access: Access, is_device: bool) -> Result<(), OpenFault>
     ensures { IfErr result IsLengthFault }
 {
@@ -104,8 +107,8 @@ fn lock<R: Clock>(rt: &R, file: &File, access: Access, is_device: bool) -> Resul
     }
 }
 
-/// Refuses a path that leads to neither a regular file nor a block device, before it is opened.
-/// Opening a pipe would wait for its other end.
+/// Refuses a path that leads to neither a regular file nor a block device, before the path is
+/// opened. To open a pipe would mean to wait for its other end.
 fn check_kind<R: Files>(rt: &R, path: &str) -> Result<(), OpenFault>
     ensures { IfErr result IsLengthFault }
 {
@@ -123,8 +126,8 @@ fn leads_to<R: Files>(rt: &R, path: &str, open: &Metadata) -> bool {
     }
 }
 
-/// Opens a regular file or a block device and locks it. A file that was replaced before it was
-/// locked is opened again. A device that is in use isn't opened for changes.
+/// Opens a regular file or a block device and locks it. If the file was replaced before it was
+/// locked, opens the path again. Doesn't open a device that is in use for changes.
 pub(crate) fn open_locked<R: Files<File = File> + Clock>(
     rt: &R,
     alloc: Global,

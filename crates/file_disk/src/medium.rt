@@ -38,7 +38,7 @@ pub(crate) fn get(medium: &mut Memory, at: u32, into: &mut [[u8; SECTOR_BYTES]])
     }
 }
 
-/// If `works` is true, syncs the medium, so that it has everything that was written. Otherwise does
+/// Syncs the medium if `works` is true, so that it has everything that was written. Otherwise does
 /// nothing.
 pub(crate) fn sync_if(medium: &mut Memory, works: bool)
     ensures sectors { (memory_facts medium.new).sectors ≡ (memory_facts medium.old).sectors }

@@ -1,4 +1,4 @@
-// A file in memory. A test can stop it, or have one of its calls fail.
+// A file in memory, which a test can stop, or make fail at one of its calls.
 ghost use Rattle.std.specs.Prelude.{◌≡◌, ◌-◌, length};
 
 use crate::medium::{get, put, sync_if};
@@ -8,19 +8,19 @@ use sector_disk::{CallCount, Disk, DiskFault, Memory, Past, SECTOR_BYTES};
 use std::io;
 use std::io::ErrorKind;
 
-/// The outcome of a call of a `MemoryFile`.
+/// The result of a call of a `MemoryFile`.
 #[derive(Clone, Copy)]
 pub struct CallOutcome {
-    /// The maximum number of sectors that a read or a write moves. If this isn't 0, a sync does its
-    /// work even if it fails.
+    /// The maximum number of sectors that a read or a write moves. If this isn't 0, a sync brings
+    /// everything to the medium even if it fails.
     pub most: usize,
     /// Whether the call fails, after it has moved its sectors.
     pub fails: bool,
 }
 
-/// The call of a `MemoryFile` that doesn't do everything that it was asked for. It is call number
-/// `call`, counted from 1. If `call` is 0, there is none. If `forever` is true, all later calls
-/// fail and move nothing, as if the system had stopped.
+/// The planned call of a `MemoryFile`, which fails or moves only some of its sectors. It is call
+/// number `call`, counted from 1. If `call` is 0, no call is planned. If `forever` is true, all
+/// later calls fail and move nothing, as if the system had stopped.
 #[derive(Clone, Copy)]
 pub struct FilePlan {
     pub call: u64,
@@ -29,13 +29,13 @@ pub struct FilePlan {
 }
 
 /// An honest file in memory. Its medium is a disk that can be stopped. Contents that were written
-/// since the last sync reach the medium sector by sector, in any order, or not at all. After a
-/// failed sync, later syncs succeed and bring nothing to the medium.
+/// since the last sync reach the medium sector by sector, in any order, or never. After a failed
+/// sync, later syncs succeed and bring nothing to the medium.
 pub struct MemoryFile {
     medium: Memory,
     plan: FilePlan,
-    // The number of calls that are left up to the planned one, counting that one. After the planned
-    // call, the number is 0.
+    // The number of calls up to the planned one, including it. After the planned call, the number
+    // is 0.
     wait: u64,
     sync_failed: bool,
     // The medium at each past moment.
@@ -60,7 +60,7 @@ impl MemoryFile {
         ensures failures { (memory_file_facts result).failures ≡ 0 }
         ensures sync_failed { (memory_file_facts result).sync_failed ≡ false }
 
-        // If the disk is at its start, the file is found with the disk's sectors.
+        // If the disk is at its start, the file is one that is found with the disk's sectors.
         ensures reopen { (contents : List Sector) → StartsWith (memory_facts medium) contents
             → IsFoundWith (memory_file_facts result) contents }
     {
@@ -74,16 +74,16 @@ impl MemoryFile {
         }
     }
 
-    /// Returns the number of calls that are left up to the planned one, counting that one. After
-    /// the planned call, returns 0.
+    /// Returns the number of calls up to the planned one, including it, or 0 after the planned
+    /// call.
     pub fn calls_left(&self) -> u64
         ensures { result ≡ (plan_of self.now).call - (memory_file_facts self.now).time }
     {
         self.wait
     }
 
-    /// Returns the medium, which can be stopped. It also has the contents that were written since
-    /// the last sync.
+    /// Returns the medium, a disk that can be stopped. It also has the contents that were written
+    /// since the last sync.
     pub fn into_medium(self) -> Memory
         ensures { result ≡ medium_of self }
     {
@@ -125,7 +125,7 @@ impl MemoryFile {
         outcome
     }
 
-    // Returns whether a sync with this outcome does its work.
+    // Returns whether a sync with this outcome brings everything to the medium.
     fn does_work(&self, outcome: CallOutcome) -> bool
         ensures { result ≡ does_work self.now outcome }
     {

@@ -1,5 +1,5 @@
-// Adjacent sectors that were read from the file. Some of them were read ahead, before a caller
-// asked for them.
+// Adjacent sectors that were read from the file. Some of them were read before a caller requested
+// them.
 ghost use Rattle.std.specs.Prelude.{◌≡◌, ◌≤◌, ◌<◌, vec_len, vec_capacity};
 
 use crate::sector_file::SectorFile;
@@ -7,10 +7,10 @@ use crate::transfer::read_most;
 use sector_disk::{DiskFault, SECTOR_BYTES};
 use std::alloc::{AllocError, Global};
 
-/// The maximum number of sectors that one read asks for: 128 KiB.
+/// The maximum number of sectors that one read requests: 128 KiB.
 const MOST: usize = 256;
 
-/// The minimum number of sectors that a read asks for, unless fewer can be read: 4 KiB.
+/// The minimum number of sectors that a read requests, unless fewer can be read: 4 KiB.
 const FIRST: usize = 8;
 
 /// The read-ahead buffer: adjacent sectors, with the contents that the file returned for them.
@@ -18,12 +18,12 @@ const FIRST: usize = 8;
 pub(crate) struct ReadAhead {
     start: u32,
     count: usize,
-    // The number of sectors that there is room for.
+    // The maximum number of sectors in the buffer.
     room: usize,
-    // The number of sectors that the last read asked for.
+    // The number of sectors that the last read requested.
     asked: usize,
     // The memory for all sectors is reserved. A read touches only the memory of the sectors that it
-    // asks for.
+    // requests.
     contents: Vec<[u8; SECTOR_BYTES]>,
     ghost some: { 0 < room },
     ghost most: { room ≤ 256 },
@@ -54,7 +54,7 @@ impl ReadAhead {
         })
     }
 
-    /// Returns the content that the file returned for sector `at`, if it is kept.
+    /// Returns the content that the file returned for sector `at`, if the buffer has it.
     pub(crate) fn get(&self, at: u32) -> Option<&[u8; SECTOR_BYTES]>
         ensures { option_copied result ≡ read_ahead_at self.now at }
     {
@@ -69,7 +69,7 @@ impl ReadAhead {
         }
     }
 
-    /// If sector `at` is in the buffer, empties the buffer.
+    /// Empties the buffer if it has sector `at`.
     pub(crate) fn forget(&mut self, at: u32)
         ensures here { read_ahead_at self.new at ≡ None }
         ensures others { (k : ℕ) → IsForgotten self.old self.new k }
@@ -79,8 +79,8 @@ impl ReadAhead {
         }
     }
 
-    // Sets the number of sectors to ask for: twice the number before if `at` is the next sector,
-    // and half of it otherwise.
+    // Sets the number of sectors that the next read requests: twice the previous number if `at` is
+    // the sector after the buffered ones, and half of it otherwise.
     fn choose_length(&mut self, at: u32)
         ensures some { 0 < self.new.asked }
         ensures most { self.new.asked ≤ self.new.room }
@@ -99,7 +99,7 @@ impl ReadAhead {
         self.count = 0;
     }
 
-    // Lengthens the contents to at least `most` sectors, for a read.
+    // Extends the contents to at least `most` sectors, for a read.
     fn lengthen(&mut self, most: usize)
         requires { most ≤ self.old.room }
         ensures size { most ≤ vec_len self.new.contents }
@@ -116,8 +116,8 @@ impl ReadAhead {
         }
     }
 
-    /// Reads sector `at` and sectors after it into the buffer: as many in all as `choose_length`
-    /// chooses, but at most `most`.
+    /// Reads sector `at` and the sectors after it into the buffer. `choose_length` chooses the
+    /// number of sectors, which is at most `most`.
     pub(crate) fn fill<F: SectorFile>(
         &mut self,
         file: &mut F,

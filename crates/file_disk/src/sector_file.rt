@@ -11,10 +11,11 @@ use std::io;
 
 /// A file of sectors of `SECTOR_BYTES` bytes, numbered from 0. It is open and keeps its length.
 ///
-/// Reads return written contents at once. The system brings written contents to the medium at any
-/// time, sector by sector and in any order, and all of them before a sync succeeds. A file that
-/// does so is called honest; the clauses under `honest` hold for it. A failed sync may have lost
-/// written contents, and later successful syncs don't report that.
+/// Reads return written contents immediately. The system brings written contents to the medium at
+/// any time, sector by sector and in any order, and brings all of them there before a sync
+/// succeeds. A file for which this is true is called honest; the clauses under `honest` hold for
+/// it. A failed sync may have lost written contents, and later successful syncs don't report the
+/// loss.
 pub trait SectorFile {
     /// Whether files of this type are honest.
     ghost is_honest: { Bool };
@@ -28,7 +29,7 @@ pub trait SectorFile {
         ensures length { IfErr result IsLengthFault };
 
     /// Reads sector `at` and the sectors after it into `into`. Returns the number of sectors that
-    /// were read. Their contents are at the front of `into`.
+    /// were read, whose contents are at the front of `into`.
     fn read_at(&mut self, at: u32, into: &mut [[u8; SECTOR_BYTES]]) -> io::Result<usize>
         requires inside { IsTrue is_honest → at + length into.old ≤ (facts self.old).sectors }
         ensures bound { moved result ≤ length into.old }
@@ -36,8 +37,8 @@ pub trait SectorFile {
             → IsFileRead (facts self.old) (facts self.new) at into.new result };
 
     /// Writes the sectors of `from` to sector `at` and the sectors after it. Returns the number of
-    /// sectors that were written, counted from the front of `from`. To continue, a caller passes
-    /// the next sector from its first byte on.
+    /// sectors that were written, counted from the front of `from`. If this is only a part of
+    /// `from`, the caller passes the rest, from the beginning of its first sector, to another call.
     fn write_at(&mut self, at: u32, from: &[[u8; SECTOR_BYTES]]) -> io::Result<usize>
         requires inside { IsTrue is_honest → at + length from.now ≤ (facts self.old).sectors }
         ensures bound { moved result ≤ length from.now }

@@ -1,4 +1,4 @@
-// Moves sectors to and from a file, in as many calls as are needed.
+// Moves sectors to and from a file, with as many calls as necessary.
 ghost use Rattle.std.specs.Prelude.{◌≡◌, ◌<◌, ◌≤◌, ◌+◌, ◌^◌, false, IsTrue, OnOk, OnErr, length};
 ghost use Rattle.file_disk.specs.inside.Transfer.{IsWrittenAt, IsReadAt};
 
@@ -6,8 +6,8 @@ use crate::sector_file::SectorFile;
 use sector_disk::{DiskFault, SECTOR_BYTES};
 use std::io::ErrorKind;
 
-/// Writes all sectors of `from`, from sector `at` on, even if the file accepts only a few at a time
-/// or a signal interrupts a call.
+/// Writes all sectors of `from` to sector `at` and the sectors after it, even if the file accepts
+/// only a few sectors at a time, or a signal interrupts a call.
 pub(crate) fn write_all<F: SectorFile>(
     file: &mut F,
     at: u32,
@@ -25,6 +25,8 @@ pub(crate) fn write_all<F: SectorFile>(
         ((F.facts file.old).failures < (F.facts file.new).failures) }
 {
     let mut done = 0;
+    // Each round writes a sector, returns, or was interrupted by a signal. The bound is there so
+    // that the loop has an end: 2^64 signals would take centuries.
     for _ in 0..u64::MAX {
         if done >= from.len() {
             return Ok(());
@@ -42,7 +44,7 @@ pub(crate) fn write_all<F: SectorFile>(
     Err(DiskFault::Failed)
 }
 
-/// Reads sectors until `most` sectors have been read, the file returns none, or a read fails.
+/// Reads sectors until `most` sectors have been read, a call returns no sector, or a read fails.
 /// Returns the number of sectors that were read.
 pub(crate) fn read_most<F: SectorFile>(
     file: &mut F,
@@ -62,6 +64,7 @@ pub(crate) fn read_most<F: SectorFile>(
         → (F.facts file.old).failures < (F.facts file.new).failures }
 {
     let mut count = 0;
+    // Each round reads a sector, returns, or was interrupted by a signal, as in `write_all`.
     for _ in 0..u64::MAX {
         if count >= most {
             return count;

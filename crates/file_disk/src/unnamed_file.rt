@@ -1,4 +1,7 @@
-// A file that is made complete under another name before it gets its own name.
+// A file that is completed under another name before it gets its own name.
+
+ghost use Rattle.std.specs.Prelude.{IfErr};
+ghost use Rattle.file_disk.specs.Length.{IsLengthFault};
 
 use crate::locked::{TRIES, is_same_file};
 use crate::open::{OpenFault, is_free, open_folder};
@@ -13,24 +16,24 @@ use thiserror::Error;
 /// The maximum length of a name in bytes.
 const LONGEST_NAME: usize = 255;
 
-/// The ending of the other name, under which a file is made.
+/// The ending of the other name under which a file is made.
 const ENDING: &str = ".rlibreg-new";
 
-/// Why a file that was made complete didn't get its name, or may lose it.
+/// The reason why a completed file didn't get its name, or may lose the name.
 #[derive(Clone, Copy, Debug, PartialEq, Eq, Error)]
 pub enum NameFault {
     /// The file didn't get its name, and it no longer exists.
     #[error("the file can't be given its name")]
     NotGiven,
-    /// The file got its name, but the name may not outlast a power cut.
+    /// The file got its name, but a power cut may remove the name.
     #[error("the folder of the file can't be synced")]
     NotSynced,
 }
 
 /// The name that a file still has to get. The file stays locked as long as this value exists.
 ///
-/// Until the file gets this name, it has another name in the same folder. Only a process that has
-/// locked the file under the other name gives it its own name, or removes the other name.
+/// Until the file gets this name, it has another name in the same folder. Only the process that has
+/// locked the file under the other name may give it its own name, or remove the other name.
 #[derive(Drop)]
 pub struct UnnamedFile<'a> {
     file: File,
@@ -38,7 +41,7 @@ pub struct UnnamedFile<'a> {
     path: &'a str,
 }
 
-/// Returns the other name for the file of `path`, or nothing if the path doesn't end in a name.
+/// Returns the other name for the file at `path`, or `None` if the path doesn't end in a name.
 fn other_name(alloc: Global, path: &str) -> Result<Option<String>, AllocError> {
     let Some(name) = Path::new(path).file_name() else {
         return Ok(None);
@@ -56,7 +59,7 @@ fn other_name(alloc: Global, path: &str) -> Result<Option<String>, AllocError> {
     Ok(Some(other))
 }
 
-/// Returns whether `name` is a name of the open file `file`, and not a symbolic link to it.
+/// Returns whether `name` is a name of the open file `file`, rather than a symbolic link to it.
 fn is_name_of<R: Files>(rt: &R, name: &str, file: &File) -> bool {
     match (fs::symlink_metadata(rt, name), file.metadata()) {
         (Ok(named), Ok(open)) => is_same_file(&named, &open),
@@ -64,10 +67,12 @@ fn is_name_of<R: Files>(rt: &R, name: &str, file: &File) -> bool {
     }
 }
 
-/// Removes the other name if a process that has ended left it behind. The file isn't written,
-/// because it may be a finished registry that has another name too. A file that is locked, or that
-/// isn't a regular file, isn't removed.
-fn take_leftover<R: Files<File = File>>(rt: &R, other: &str) -> Result<(), OpenFault> {
+/// Removes the other name if a process that has ended left it there. Doesn't write the file,
+/// because it may be a complete registry that also has its own name. Doesn't remove a file that is
+/// locked or that isn't a regular file.
+fn take_leftover<R: Files<File = File>>(rt: &R, other: &str) -> Result<(), OpenFault>
+    ensures { IfErr result IsLengthFault }
+{
     match fs::symlink_metadata(rt, other) {
         Ok(found) if found.is_file() => {}
         Err(fault) if fault.kind() == ErrorKind::NotFound => return Ok(()),
@@ -87,19 +92,21 @@ fn take_leftover<R: Files<File = File>>(rt: &R, other: &str) -> Result<(), OpenF
     Ok(())
 }
 
-/// Locks a file that was just made. Returns nothing if another process has locked the file or
-/// removed its name, because it took the file for a leftover.
+/// Locks a file that was just made. Returns `None` if another process has locked the file or
+/// removed its name, because that process assumed that the file was left over.
 fn lock_made<R: Files<File = File>>(
     rt: &R,
     other: &str,
     file: File,
-) -> Result<Option<File>, OpenFault> {
+) -> Result<Option<File>, OpenFault>
+    ensures { IfErr result IsLengthFault }
+{
     match file.try_lock() {
         Ok(()) if is_name_of(rt, other, &file) => Ok(Some(file)),
         Ok(()) | Err(TryLockError::WouldBlock) => Ok(None),
         Err(TryLockError::Error(_)) => {
-            // The file can't be locked at all: no other process has the lock. So its name is
-            // removed.
+            // The file can't be locked, although no other process has locked it. Therefore the name
+            // is removed.
             if is_name_of(rt, other, &file) {
                 let _ = fs::remove_file(rt, other);
             }
@@ -108,8 +115,10 @@ fn lock_made<R: Files<File = File>>(
     }
 }
 
-/// Makes an empty file under the other name and locks it. The file is always a new one.
-fn make_locked<R: Files<File = File>>(rt: &R, other: &str) -> Result<File, OpenFault> {
+/// Makes an empty file under the other name and locks it. Never opens an existing file.
+fn make_locked<R: Files<File = File>>(rt: &R, other: &str) -> Result<File, OpenFault>
+    ensures { IfErr result IsLengthFault }
+{
     for _ in 0..TRIES {
         match File::create_new(rt, other) {
             Ok(made) => {
@@ -148,7 +157,9 @@ impl<'a> UnnamedFile<'a> {
         alloc: Global,
         path: &'a str,
         bytes: u64,
-    ) -> Result<(File, UnnamedFile<'a>), OpenFault> {
+    ) -> Result<(File, UnnamedFile<'a>), OpenFault>
+        ensures { IfErr result IsLengthFault }
+    {
         let Some(other) = other_name(alloc, path)? else {
             return Err(OpenFault::CannotOpen);
         };
@@ -168,7 +179,7 @@ impl<'a> UnnamedFile<'a> {
         self.file.try_clone()
     }
 
-    /// Removes the other name. The file no longer exists once it is closed.
+    /// Removes the other name. When the file is closed, it ceases to exist.
     pub fn take_away<R: Files>(self, rt: &R) {
         let UnnamedFile { file, other, .. } = self;
         if is_name_of(rt, &other, &file) {
@@ -178,7 +189,7 @@ impl<'a> UnnamedFile<'a> {
     }
 
     /// Gives the file its own name, unless a file with this name exists, and removes the other
-    /// name. Then syncs the folder. The caller has synced the file itself.
+    /// name. Then syncs the folder. The caller must have synced the file itself before.
     pub fn publish<R: Files<File = File>>(self, rt: &R) -> Result<(), NameFault> {
         let Ok(folder) = open_folder(rt, self.path) else {
             return self.refuse(rt);
@@ -190,7 +201,7 @@ impl<'a> UnnamedFile<'a> {
             Ok(()) => both(fs::remove_file(rt, self.other.as_str()), folder.sync_all()),
             Err(fault) if lacks_links(fault.kind()) && is_free(rt, self.path) => {
                 match fs::rename(rt, self.other.as_str(), self.path) {
-                    // FAT stores a file's length next to its name, so the file is synced too.
+                    // FAT stores a file's length with the file's name, so the file is synced too.
                     Ok(()) => both(self.file.sync_all(), folder.sync_all()),
                     Err(_) => self.refuse(rt),
                 }

@@ -13,8 +13,8 @@ const MOST: usize = 256;
 #[derive(Drop)]
 pub(crate) struct WriteBuffer {
     start: u32,
-    // The maximum number of buffered sectors. The memory for them is reserved, and isn't touched
-    // before they are buffered.
+    // The maximum number of buffered sectors. The memory for them is reserved, but isn't touched
+    // until they are buffered.
     room: usize,
     contents: Vec<[u8; SECTOR_BYTES]>,
     ghost some: { 0 < room },
@@ -66,7 +66,7 @@ impl WriteBuffer {
         self.contents.is_empty()
     }
 
-    /// Returns the content of sector `at`, if it is buffered.
+    /// Returns the content of sector `at` in the buffer, if the buffer has the sector.
     pub(crate) fn get(&self, at: u32) -> Option<&[u8; SECTOR_BYTES]>
         ensures { option_copied result ≡ write_buffer_at self.now at }
     {
@@ -81,8 +81,8 @@ impl WriteBuffer {
         }
     }
 
-    /// Returns whether sector `at` can be buffered: it is buffered already, or it is the next
-    /// sector and there is room, or the buffer is empty.
+    /// Returns whether sector `at` can be buffered: the buffer is empty, or it has this sector, or
+    /// the sector is the next one and there is room for it.
     pub(crate) fn has_room(&self, at: u32) -> bool
         ensures { result ≡ has_room self.now at }
     {

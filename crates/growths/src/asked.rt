@@ -37,7 +37,7 @@ fn has_at(image: &Image, address: u64, file: &[u8; SIZE]) -> bool {
 }
 
 // Returns whether an image is that of the program that needs `a`, with version 2 of `a`, and with
-// `b` as a preload. The files are unchanged in the image, each one page after the one before it.
+// `b` as a preload. Each file is unchanged in the image, one page after the previous file.
 fn is_whole(image: &Image) -> bool {
     has_at(image, BASE, &program(b'a'))
         && has_at(image, BASE.wrapping_add(0x1000), &library(b'b', 0))
@@ -100,12 +100,12 @@ fn command_of(asked: Asked, file: &[u8]) -> Command<'_> {
     }
 }
 
-/// Gives a command to a registry, and returns its reply.
+/// Applies a command to a registry, and returns its reply.
 pub(crate) fn give(registry: &mut OnMemory, asked: Asked) -> Reply {
     registry.apply(&command_of(asked, &file_of(asked)))
 }
 
-/// Gives a command to a registry, and returns the word for its reply.
+/// Applies a command to a registry, and returns the word for its reply.
 pub(crate) fn ask(registry: &mut OnMemory, asked: Asked) -> &'static str {
     word(&give(registry, asked))
 }

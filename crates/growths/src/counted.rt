@@ -10,7 +10,7 @@ pub(crate) fn counted(disk: Memory) -> Fuse<Memory> {
     Fuse::new(disk, MANY, true, false)
 }
 
-/// Returns how many calls of a disk have been made. To find this out, reads the disk until a read
+/// Returns the number of calls of a disk so far. To find this number, reads the disk until a read
 /// fails.
 pub(crate) fn calls(disk: &mut Fuse<Memory>) -> u64 {
     let mut sector = [0; SECTOR_BYTES];

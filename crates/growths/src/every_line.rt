@@ -25,7 +25,7 @@ pub(crate) fn put_line(
     Ok(())
 }
 
-// Returns the script. It is for the registry that all commands of `STEPS` have made.
+// Returns the script, for the registry that all commands of `STEPS` have made.
 fn script_lines(alloc: Global) -> Result<Vec<u8>, AllocError> {
     let (a, c, other_c) = (library(b'a', 2), library(b'c', 0), library(b'c', 1));
     let (needs_a, needs_d) = (program(b'a'), program(b'd'));
@@ -118,7 +118,7 @@ fn is_whole(ran: &Ran, told: &[Vec<u8>]) -> bool {
     same
 }
 
-// Returns the words that say how a script ended.
+// Returns the words about the end of a script.
 fn end_word(fault: Option<ScriptFault>) -> &'static str {
     match fault {
         None => "to the end;",

@@ -57,8 +57,8 @@ pub(crate) fn replies(alloc: Global, text: &[u8]) -> Result<Vec<Vec<u8>>, AllocE
     Ok(all)
 }
 
-/// Returns whether a reply says that its line wasn't carried out because memory was refused, to the
-/// registry or to the disk.
+/// Returns whether a reply states that its line wasn't carried out because memory for the registry
+/// or for the disk was refused.
 pub(crate) fn is_not_done(reply: &[u8]) -> bool {
     matches!(reply_word(reply), "S1" | "S2" | "S11")
 }

@@ -96,9 +96,9 @@ fn otherwise(
     Ok(said)
 }
 
-/// Runs three rounds. The first installs a library, and lists. The second removes it; the last sync
-/// of this round fails, but the stop keeps the new content of the root. The third shows the state
-/// with a listing and a bind.
+/// Runs three rounds. The first round installs a library, and lists. The second removes the
+/// library; the last sync of this round fails, but the stop keeps the new content of the root. The
+/// third shows the state with a listing and a bind.
 pub(crate) fn rounds(alloc: Global, disk: Memory) -> Result<Option<Words>, AllocError> {
     let file = library(b'c', 0);
     let needing = program(b'a');

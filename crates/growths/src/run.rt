@@ -1,4 +1,4 @@
-// Makes a registry, gives each command to this registry, and then runs the other parts that
+// Makes a registry, applies each command to this registry, and then runs the other parts that
 // allocate.
 
 use crate::asked::{Asked, OnMemory, ask};
@@ -36,7 +36,7 @@ fn opening_calls(alloc: Global, at: usize) -> Result<u64, AllocError> {
     Ok(calls(&mut disk))
 }
 
-// Opens the registry on a disk, gives it command number `at`, and returns the answer.
+// Opens the registry on a disk, applies command number `at` to it, and returns the answer.
 fn again(alloc: Global, disk: Memory, at: usize) -> Result<&'static str, AllocError> {
     let mut registry = opened(alloc, disk)?;
     let asked = match STEPS.get(at) {
@@ -48,9 +48,9 @@ fn again(alloc: Global, disk: Memory, at: usize) -> Result<&'static str, AllocEr
     Ok(answer)
 }
 
-// Adds three facts to the report about a refused command or opening. They are the number of calls
-// of the disk after the first `opened_calls`, whether the registry is as before, and the answer to
-// the same command when it is given again.
+// Adds three facts to the report about a refused command or opening: the number of calls of the
+// disk after the first `opened_calls`, whether the registry is unchanged, and the answer to the
+// same command when it is applied again.
 fn tell(
     alloc: Global,
     words: Words,
@@ -69,8 +69,8 @@ fn tell(
     Ok(words)
 }
 
-// Returns the report about an unexpected answer. After S1 the same command is also given again at
-// once.
+// Returns the report about an unexpected answer. After S1, also applies the same command again
+// immediately.
 fn otherwise(
     alloc: Global,
     registry: OnMemory,
@@ -104,8 +104,8 @@ fn not_opened(
     tell(alloc, words, at, disk, 0)
 }
 
-// Opens a copy of the disk, and gives its registry command number `at`. On a copy, the next write
-// has to allocate.
+// Opens a copy of the disk, and applies command number `at` to its registry. The next write to a
+// copy has to allocate.
 fn go(alloc: Global, disk: &Memory, step: Step, at: usize) -> Result<Went, AllocError> {
     match Registry::open(alloc, counted(disk.copy()?)) {
         Ok(mut registry) => {
@@ -120,7 +120,7 @@ fn go(alloc: Global, disk: &Memory, step: Step, at: usize) -> Result<Went, Alloc
     }
 }
 
-// Gives each command of `STEPS` to the registry on the disk.
+// Applies each command of `STEPS` to the registry on the disk.
 fn steps(alloc: Global, disk: Memory) -> Result<Went, AllocError> {
     let mut disk = disk;
     for (at, step) in STEPS.iter().enumerate() {

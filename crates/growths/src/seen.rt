@@ -13,7 +13,7 @@ use samples::{library, program};
 use sector_disk::Memory;
 use std::alloc::{AllocError, Global};
 
-/// Returns the disk before command number `at`, as it is if no growth is refused.
+/// Returns the disk before command number `at`, if no growth was refused.
 pub(crate) fn before(alloc: Global, at: usize) -> Result<Memory, AllocError> {
     let Ok(mut registry) = Registry::format(alloc, counted(zeros(alloc)?)) else {
         return Err(AllocError);
@@ -47,8 +47,8 @@ pub(crate) fn seen(alloc: Global, disk: Memory) -> Result<Vec<u8>, AllocError> {
     }
 }
 
-/// Returns words that say whether the registry on a disk lists and binds as the registry before
-/// command number `at` does.
+/// Returns words about whether the registry on a disk lists and binds in the same way as the
+/// registry before command number `at`.
 pub(crate) fn is_as_before(
     alloc: Global,
     disk: Memory,

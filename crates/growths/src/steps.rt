@@ -1,11 +1,11 @@
-// The commands, in the order in which they are given, with their answers if no growth is refused.
+// The commands, in the order in which they are applied, with their answers if no growth is refused.
 
 use crate::asked::Asked;
 
 /// The name of a command, the command, and its answer.
 pub(crate) type Step = (&'static str, Asked, &'static str);
 
-/// The commands, in the order in which they are given. After them, `a` and `b` are installed, and
+/// The commands, in the order in which they are applied. After them, `a` and `b` are installed, and
 /// `b` is the preload.
 pub(crate) const STEPS: [Step; 11] = [
     ("install a:", Asked::Install(b'a', 0), "ok"),

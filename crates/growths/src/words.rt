@@ -22,7 +22,7 @@ impl Words {
         words
     }
 
-    /// Adds a word. If there is no room for it, replaces the last word with one that says so.
+    /// Adds a word. If there is no room for it, replaces the last word with one that reports this.
     pub(crate) fn push(&mut self, word: &'static str) {
         let count = self.count;
         match self.list.get_mut(count) {

@@ -1,5 +1,6 @@
--- The tests of admission, which follow an object's own tests (own; of gABI chapter 5, "Hash Table"). If a walk ends, it
--- ends in fewer steps than there are chain words. So these tests decide the conditions of HashTable.antt.
+-- The tests of admission, which follow an object's own tests (own; of gABI chapter 5, "Hash
+-- Table"). If a walk ends, it has fewer steps than there are chain words. For this reason the tests
+-- decide the conditions of HashTable.antt.
 use Rattle.std.specs.Prelude.{ℕ, List, [], ◌∷◌, Bool, true, Option, Some, ◌≡◌, ◌≤◌}
 use Rattle.std.specs.Prelude.{◌==◌, ◌&&◌, ◌⊎◌, not, nat_lt, length, map, take_while}
 use Rattle.std.specs.List.{list_any, list_all, range_with_len}
@@ -14,7 +15,7 @@ use Rattle.hash_check.specs.HashTable.{bucket_of, HasGoodTable}
 use Rattle.hash_check.specs.declared.refusal.AdmitRefusal.{AdmitRefusal}
 use Rattle.hash_check.specs.declared.refusal.AdmitRefusal.TheVariants.{DuplicateDefinition, BadHashTable, OutOfMemory}
 
--- the indices on the walk from `from` before the walk reaches 0, but at most as many as there are chain words
+-- the indices on the walk from `from` before it reaches 0; at most as many as there are chain words
 unfoldable pub walked : List ℕ → ℕ → List ℕ
 walked words from = take_while (λ i. not (i == 0)) (map (walk words from) (range_with_len 0 (length words)))
 
@@ -35,7 +36,7 @@ has_good_words file = not (length (buckets file) == 0)
 unfoldable pub has_ending_walks : List ℕ → Bool
 has_ending_walks file = list_all (ends_soon (chains file)) (buckets file)
 
--- a symbol is on the walk from the bucket of its own name's hash
+-- symbol number `i` is on the walk from the bucket of its own name's hash
 unfoldable pub is_met : List ℕ → ℕ → Bool
 is_met file i = list_any (λ j. j == i) (walked (chains file) (bucket_of (buckets file) (elf_hash (name_of file i))))
 
@@ -43,7 +44,8 @@ is_met file i = list_any (λ j. j == i) (walked (chains file) (bucket_of (bucket
 unfoldable pub meets_exports : List ℕ → Bool
 meets_exports file = list_all (is_met file) (exported_symbols file)
 
--- E29, as a test: there is no bucket, a word isn't an index, a walk doesn't end, or an exported symbol isn't on the walk from its own bucket
+-- E29, as a test: there is no bucket, a word isn't an index, a walk doesn't end, or an exported
+-- symbol isn't on the walk from the bucket of its name's hash
 unfoldable pub has_bad_hash_table : List ℕ → Bool
 has_bad_hash_table file = not (has_good_words file && (has_ending_walks file && meets_exports file))
 
@@ -52,19 +54,19 @@ unfoldable pub admission_refusal : List ℕ → Option AdmitRefusal
 admission_refusal file =
     first_of ((DuplicateDefinition when has_duplicate_definition file) ∷ (BadHashTable when has_bad_hash_table file) ∷ [])
 
--- admission may need memory: to compare the names of exported symbols if there are two or more, and to
--- follow the walks if every word is an index (own)
+-- admission may need memory: at least two symbols are exported, so that their names have to be
+-- compared, or every word is an index, so that the walks have to be followed (own)
 abbrev pub NeedsMemory : List ℕ → Type 0
 NeedsMemory file = (2 ≤ length (exported_symbols file)) ⊎ (has_good_words file ≡ true)
 
--- admission may return this refusal: OutOfMemory if memory may be needed, and any other refusal if its
+-- admission may return this refusal: OutOfMemory if memory may be needed, or another refusal if its
 -- test is the first that applies (own)
 abbrev pub IsRefusedBy : List ℕ → AdmitRefusal → Type 0
 IsRefusedBy file OutOfMemory = NeedsMemory file
 IsRefusedBy file refusal = admission_refusal file ≡ Some refusal
 
--- the reason for the refusal is true: two exported symbols share a name; or no two do, and the table can't be trusted;
--- or memory may be needed
+-- the refusal is true: two exported symbols share a name; or no two do, and the table can't be
+-- trusted; or memory may be needed
 abbrev pub Says : List ℕ → AdmitRefusal → Type 0
 Says file DuplicateDefinition = HasSharedName file
 Says file BadHashTable = HasUniqueNames file × (¬ HasGoodTable file)

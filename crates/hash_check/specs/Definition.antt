@@ -11,7 +11,8 @@ use Rattle.hash_check.specs.Export.{is_exported}
 unfoldable pub is_exported_as : List ℕ → List ℕ → ℕ → Bool
 is_exported_as file name i = is_exported file i && bytes_eq (name_of file i) name
 
--- the symbol that an object exports under a name, found by going through all its symbols
+-- the first symbol that an object exports under a name, if there is one; all symbols of the object
+-- are compared
 unfoldable pub definition_of : List ℕ → List ℕ → Option ℕ
 definition_of file name = find (is_exported_as file name) (range_with_len 1 (length (symbols file) - 1))
 
@@ -28,7 +29,7 @@ pub record HasSharedName (file : List ℕ) : Type 0 where
   pub second_exported : is_exported file second ≡ true
   pub same : name_of file first ≡ name_of file second
 
--- E28, as a test: an exported symbol has the name of an exported symbol before it
+-- E28, as a test: an exported symbol has the same name as an exported symbol before it
 unfoldable pub has_duplicate_definition : List ℕ → Bool
 has_duplicate_definition file =
     list_any (λ j. is_exported file j && list_any (is_exported_as file (name_of file j)) (range_with_len 1 (j - 1)))

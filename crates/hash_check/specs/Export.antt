@@ -5,7 +5,7 @@ use Rattle.std.specs.Option.{option_map_or}
 use Rattle.elf_dynamic.specs.Symbol.{symbols, is_global, is_weak, is_defined, is_function_or_object, is_visible}
 use Rattle.elf_dynamic.specs.declared.symbol.Symbol.{Symbol}
 
--- a symbol with the fields `s` is exported, unless its number is 0
+-- a symbol with the fields `s` is exported, if its number isn't 0
 unfoldable pub exports : Symbol → Bool
 exports s = (is_global s || is_weak s) && (is_defined s && (is_function_or_object s && is_visible s))
 

@@ -1,5 +1,5 @@
--- Why a file is refused. The object's own tests come first, and the tests of admission follow (own: the order of all
--- tests).
+-- The refusals of a file. The object's own tests come first, and the tests of admission follow
+-- (own: the order of all tests).
 use Rattle.std.specs.Prelude.{ℕ, List, [], ◌∷◌, Option, Some, None, ◌≡◌}
 use Rattle.std.specs.Option.{option_map}
 use Rattle.elf_file.specs.FirstOf.{◌when◌, first_of}
@@ -23,12 +23,13 @@ file_tests file =
 unfoldable pub first_file_refusal : List ℕ → Option FileRefusal
 first_file_refusal file = first_of (file_tests file)
 
--- reading a file may need memory: no test of the object applies, and admission may need memory
+-- reading a file may need memory: all tests of the object accept the file, and admission may need
+-- memory
 abbrev pub ReadNeedsMemory : List ℕ → Type 0
 ReadNeedsMemory file = (first_refusal file ≡ None) × NeedsMemory file
 
--- reading may return this refusal: OutOfMemory if reading the file may need memory, and the refusal of a
--- test if this test is the first that applies
+-- reading may return this refusal: OutOfMemory if reading the file may need memory, or the refusal
+-- of the first test that applies
 abbrev pub IsReadRefusal : List ℕ → ReadRefusal → Type 0
 IsReadRefusal file (File refusal) = first_file_refusal file ≡ Some refusal
 IsReadRefusal file OutOfMemory = ReadNeedsMemory file

@@ -1,8 +1,8 @@
 -- The hash of a name (gABI chapter 5, "Hash Table", the function elf_hash).
 use Rattle.std.specs.Prelude.{ℕ, List, ◌+◌, ◌-◌, ◌*◌, ◌/◌, ◌%◌, ◌^◌, bit_and, bit_xor, fold}
 
--- the hash after one more byte, in 32 bits: the hash is shifted up by four bits, the byte is added, and the highest four bits are folded into the
--- bits 4 to 7 and cleared
+-- the hash after one more byte, in 32 bits: the hash is shifted up by four bits, the byte is added,
+-- the highest four bits are folded into the bits 4 to 7, and then the highest four bits are cleared
 unfoldable pub hash_step : ℕ → ℕ → ℕ
 hash_step hash byte =
     let sum = (hash * 2 ^ 4 + byte) % 2 ^ 32 in

@@ -28,7 +28,7 @@ pub record HasIndexWords (file : List ℕ) : Type 0 where
 abbrev pub HasEndingWalks : List ℕ → Type 0
 HasEndingWalks file = All (Ends (chains file)) (buckets file)
 
--- every exported symbol is met before 0 on the walk from the bucket of its own name's hash
+-- every exported symbol is on the walk from the bucket of its own name's hash, before 0
 abbrev pub MeetsExports : List ℕ → Type 0
 MeetsExports file = (i : ℕ) → is_exported file i ≡ true → Meets (chains file) (bucket_of (buckets file) (elf_hash (name_of file i))) i
 

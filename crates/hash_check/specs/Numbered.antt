@@ -8,7 +8,7 @@ use Rattle.hash_check.specs.declared.numbered.NumberedSymbol.{NumberedSymbol}
 abbrev pub nth_file : List (List ℕ) → ℕ → List ℕ
 nth_file files place = slice_index_or files place []
 
--- symbol number `k` of a list
+-- symbol number `k` of the list
 abbrev pub nth_symbol : List NumberedSymbol → ℕ → NumberedSymbol
 nth_symbol all k = slice_index_or all k (record { object = 0; symbol = 0; number = 0 })
 
@@ -16,7 +16,7 @@ nth_symbol all k = slice_index_or all k (record { object = 0; symbol = 0; number
 abbrev pub name_in : List (List ℕ) → NumberedSymbol → List ℕ
 name_in files s = name_of (nth_file files s.object) s.symbol
 
--- the symbol exists in one of the first `n` objects, and its number isn't 0
+-- the symbol is in one of the first `n` objects, and its number isn't 0
 pub record IsSymbolOf (files : List (List ℕ)) (n : ℕ) (s : NumberedSymbol) : Type 0 where
   pub there : s.object < n
   pub some : 1 ≤ s.symbol

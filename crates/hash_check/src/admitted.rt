@@ -27,7 +27,7 @@ use elf_dynamic::{Object, ObjectRefusal};
 use std::alloc::Global;
 use std::marker::Model;
 
-/// A shared object that no test refuses, that exports no name twice, and whose hash table can be
+/// A shared object that all tests accept, that exports no name twice, and whose hash table can be
 /// trusted. In contracts, the value is the bytes of the object's file.
 #[derive(Drop)]
 pub struct Admitted<'a> {
@@ -49,10 +49,10 @@ impl<'a> Model for Admitted<'a> {
 
 impl<'a> Admitted<'a> {
     /// Admits an object, or returns the refusal of the first test that applies. Allocates about 52
-    /// bytes a symbol, and frees this memory before it returns. For a file of n bytes, the time is
-    /// proportional to at most n log n, with one exception. An exported name is hashed unless the
-    /// walks from all buckets meet the name's symbol. If hashed names share bytes of the string
-    /// table, hashing costs the sum of the names' lengths.
+    /// bytes for each symbol, and frees this memory before it returns. For a file of n bytes, the
+    /// time is proportional to at most n log n, with one exception: an exported name is hashed
+    /// unless the walks from all buckets meet the name's symbol, and if hashed names share bytes of
+    /// the string table, the hashing takes time proportional to the sum of the names' lengths.
     #[tactic(auto, unfolding(crate::specs::Admission::admission_refusal))]
     pub fn admit(alloc: Global, object: Object<'a>) -> Result<Admitted<'a>, AdmitRefusal>
         ensures ok { OnOk result (admission_refusal object.entry ≡ None) }
@@ -71,8 +71,8 @@ impl<'a> Admitted<'a> {
         Ok(Admitted { object })
     }
 
-    /// Makes the admitted object of a file that no test refuses. Repeats only the test E22. Costs
-    /// as much as `Object::of_accepted`.
+    /// Makes the admitted object of a file that all tests accept. Repeats only the test E22. Takes
+    /// as much time as `Object::of_accepted`.
     #[tactic(auto, using(crate::proofs::Reading::accepted_tests))]
     pub fn of_accepted(file: &'a [u8]) -> Admitted<'a>
         requires { first_file_refusal file.now ≡ None }
@@ -88,7 +88,7 @@ impl<'a> Admitted<'a> {
     pub fn object(&self) -> &Object<'a>
         ensures same { result.now ≡ self.now }
 
-        // No test refuses the file of an admitted object.
+        // All tests accept the file of an admitted object.
         ensures accepted { first_refusal self.now ≡ None }
         ensures admitted { admission_refusal self.now ≡ None }
         ensures unique { HasUniqueNames self.now }
@@ -128,7 +128,7 @@ impl<'a> Admitted<'a> {
     }
 
     /// Returns the number of the symbol that is exported under `name`, if there is one. Hashes the
-    /// name and follows one walk.
+    /// name, and follows the walk from one bucket.
     pub fn find(&self, name: &[u8]) -> Option<u32>
         ensures { result ≡ definition_of self.now name.now }
     {

@@ -1,4 +1,4 @@
-// Comparing strings from their last bytes.
+// Compares strings from their last bytes.
 
 ghost use Rattle.std.specs.Prelude.{◌≡◌, ◌≤◌, ℕ, length, take, reverse};
 ghost use Rattle.std.specs.Cmp.Lexicographic.{slice_cmp};
@@ -6,7 +6,7 @@ ghost use Rattle.std.specs.Ordering.{nat_cmp};
 
 use std::cmp::Ordering;
 
-/// Returns the number of bytes that the ends of `a` and `b` have in common.
+/// Returns the number of bytes at their ends that `a` and `b` have in common.
 pub(crate) fn common_end(a: &[u8], b: &[u8]) -> usize
     ensures first { result ≤ length a.now }
     ensures second { result ≤ length b.now }
@@ -23,7 +23,8 @@ pub(crate) fn common_end(a: &[u8], b: &[u8]) -> usize
     shorter
 }
 
-/// Returns the order of two strings by their bytes, read from the last byte.
+/// Returns the order of two strings that are compared byte by byte, beginning with their last
+/// bytes.
 pub(crate) fn compare_ends(a: &[u8], b: &[u8]) -> Ordering
     ensures { result ≡ slice_cmp nat_cmp (reverse a.now) (reverse b.now) }
 {

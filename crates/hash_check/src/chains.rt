@@ -27,7 +27,7 @@ impl<'o, 'a> Model for Chains<'o, 'a> {
 }
 
 impl<'o, 'a> Chains<'o, 'a> {
-    /// Returns the chain words of an object. There is one for each symbol.
+    /// Returns the chain words of an object. The object has one for each symbol.
     pub(crate) fn new(object: &'o Object<'a>) -> Chains<'o, 'a>
         ensures words { result ≡ chains object.now }
         ensures symbols { length result ≡ length (symbols object.now) }

@@ -19,7 +19,7 @@ use crate::strings::endings_of;
 use elf_dynamic::Object;
 use std::alloc::{AllocError, Global};
 
-/// Returns whether each name has its own position, counted from 1, as its number.
+/// Returns whether the number of each name is the name's position, counted from 1.
 fn are_own(numbers: &[u32]) -> bool
     ensures { IsTrue result ↔ AreOwn numbers.now }
 {
@@ -31,9 +31,8 @@ fn are_own(numbers: &[u32]) -> bool
     true
 }
 
-/// Returns the names of `symbols`, and whether all of these names differ. A table of the names
-/// decides this. The symbols may be in any order. Returns `None` if the table can't decide whether
-/// the names differ.
+/// Returns the names of `symbols`, and whether all of these names differ, or `None` if a table of
+/// the names can't decide this. The symbols may be in any order.
 fn names_in_table<'a>(
     alloc: Global,
     object: &Object<'a>,
@@ -53,8 +52,8 @@ fn names_in_table<'a>(
     }
 }
 
-/// Returns whether each name is shorter than the name before it. This is true of different tails of
-/// one string that are sorted by their places.
+/// Returns whether each name is shorter than the name before it. This is so if the names are
+/// different tails of one string, sorted by their places.
 fn lengths_fall(names: &[Name<'_>]) -> bool
     ensures { IsTrue result → Fall names.now }
 {
@@ -67,8 +66,8 @@ fn lengths_fall(names: &[Name<'_>]) -> bool
     true
 }
 
-/// Returns whether the names of the symbols differ. Compares the strings whose tails the names are.
-/// The symbols are sorted by the places of their names.
+/// Returns whether the names of the symbols differ. To decide this, compares the strings whose
+/// tails the names are. The symbols must be sorted by the places of their names.
 fn differ_in_strings(
     alloc: Global,
     object: &Object<'_>,
@@ -87,8 +86,8 @@ fn differ_in_strings(
     Ok(are_own(&numbers))
 }
 
-/// Returns an empty list of exports if fewer than two symbols are exported, because then no two
-/// share a name. Otherwise returns `AllocError`.
+/// Returns an empty list of exports if the object exports fewer than two symbols, because then no
+/// two symbols share a name. Otherwise returns `AllocError`.
 fn few_exports<'a>(alloc: Global, object: &Object<'a>) -> Result<Option<Exports<'a>>, AllocError>
     ensures ok { IfOk result (λ found. MatchOption found
         (has_duplicate_definition object.now ≡ true)
@@ -104,12 +103,12 @@ fn few_exports<'a>(alloc: Global, object: &Object<'a>) -> Result<Option<Exports<
     }
 }
 
-/// Returns the exported symbols, or `None` if two of them share a name. If fewer than two symbols
-/// are exported, the list is empty. Usually a table of the names decides whether two of the names
-/// are equal. The table can't decide this if many names are tails of other names, or if the file
-/// was made to crowd the table. Then the function compares the strings whose tails the names are.
-/// While it runs, allocates about 40 bytes for each exported symbol. About 28 of these bytes remain
-/// in the result.
+/// Returns the exported symbols, or `None` if two of them share a name. If the object exports fewer
+/// than two symbols, the list is empty. Usually a table of the names decides whether two of the
+/// names are equal. The table can't decide this if many names are tails of other names, or if the
+/// file was made to crowd the table. In that case the function compares the strings whose tails the
+/// names are. Allocates about 40 bytes for each exported symbol, and frees all but about 28 of them
+/// before it returns.
 pub(crate) fn unique_exports<'a>(
     alloc: Global,
     object: &Object<'a>,

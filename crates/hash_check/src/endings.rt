@@ -13,8 +13,8 @@ use crate::agreement::{common_end, compare_ends};
 use crate::name::Name;
 use std::alloc::{AllocError, Global};
 
-/// Some names of a list: those with the numbers from `first` up to, but not including, `past`. All
-/// these names are tails of `string`.
+/// A range of the names in a list: those with the numbers from `first` up to, but not including,
+/// `past`. All these names are tails of `string`.
 #[derive(Clone, Copy)]
 pub(crate) struct Ending<'a> {
     pub(crate) string: &'a [u8],
@@ -22,8 +22,8 @@ pub(crate) struct Ending<'a> {
     pub(crate) past: usize,
 }
 
-/// Removes the marks for lengths from `from` up to, but not including, `past`, if there are marks
-/// for them.
+/// Sets the marks to 0 for all lengths from `from` up to, but not including, `past`. Ignores
+/// lengths that have no mark.
 fn unmark(marks: &mut [u32], from: usize, past: usize)
     ensures cleared { (n : ℕ) → from ≤ n → n < past → slice_index marks.new n ≡ 0 }
     ensures low { (n : ℕ) → n < from → slice_index marks.new n ≡ slice_index marks.old n }
@@ -34,8 +34,8 @@ fn unmark(marks: &mut [u32], from: usize, past: usize)
     }
 }
 
-/// Returns the number of a name: `mark`, the mark for its length, or `own`, its own number, if the
-/// mark is 0.
+/// Returns the number of a name: `mark`, which is the mark for the name's length, or, if `mark` is
+/// 0, the name's own number `own`.
 fn picked(own: u32, mark: u32) -> u32
     ensures own { mark ≡ 0 → result ≡ own }
     ensures marked { mark ≢ 0 → result ≡ mark }
@@ -43,8 +43,8 @@ fn picked(own: u32, mark: u32) -> u32
     if mark == 0 { own } else { mark }
 }
 
-/// Sets the numbers of the names of `ending` in `numbers`, and stores the number of each name in
-/// `marks`, at the index that is the name's length.
+/// Stores the number of each name of `ending` in `numbers`, and also in `marks`, at the index that
+/// is the name's length.
 fn number_ending(names: &[Name<'_>], ending: Ending<'_>, marks: &mut [u32], numbers: &mut [u32])
     requires few { length names.now < 2 ^ 32 }
     requires ending { IsEnding names.now ending }
@@ -62,9 +62,9 @@ fn number_ending(names: &[Name<'_>], ending: Ending<'_>, marks: &mut [u32], numb
     }
 }
 
-/// Sets the numbers of all names, ending by ending. A mark for a length stays if the string of the
-/// next ending has at least that many last bytes in common with the string of this ending. So the
-/// marks are the numbers of the names that are tails of the next string too.
+/// Stores the numbers of all names, ending by ending. A mark for a length is kept if at least this
+/// number of last bytes are the same in the strings of this ending and of the next one. So the
+/// remaining marks are the numbers of names that are tails of the next string too.
 fn number_all(names: &[Name<'_>], endings: &[Ending<'_>], marks: &mut [u32], numbers: &mut [u32])
     requires few { length names.now < 2 ^ 32 }
     requires endings { AreSorted names.now endings.now }
@@ -85,7 +85,7 @@ fn number_all(names: &[Name<'_>], endings: &[Ending<'_>], marks: &mut [u32], num
     }
 }
 
-/// Returns the number of lengths that names of the endings may have, including 0.
+/// Returns the number of possible lengths of the endings' names, including 0.
 fn count_of_lengths(endings: &[Ending<'_>]) -> usize
     ensures { All (λ e. length e.string.now < result) endings.now }
 {
@@ -97,10 +97,10 @@ fn count_of_lengths(endings: &[Ending<'_>]) -> usize
 }
 
 /// Returns the numbers of `names`, which are tails of the strings of `endings`. The time depends on
-/// the strings and on the number of names, not on how many bytes the names share. If n strings
-/// share no bytes, each of them is compared about log n times. Allocates 4 bytes for each name of
-/// the result. While it runs, allocates 4 more bytes for each byte of the longest string. Returns
-/// an error if there are 2^32 names or more.
+/// the strings and on the number of names, but not on the number of bytes that the names share. If
+/// n strings share no bytes, each of them is compared about log n times. Allocates 4 bytes for each
+/// name of the result. While it runs, allocates 4 more bytes for each byte of the longest string.
+/// Returns an error if there are 2^32 names or more.
 pub(crate) fn numbers_of_endings(
     alloc: Global,
     names: &[Name<'_>],

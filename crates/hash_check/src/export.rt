@@ -7,7 +7,7 @@ ghost use Rattle.hash_check.specs.Export.{exports, is_exported, exported_symbols
 use elf_dynamic::{Object, Symbol};
 use std::alloc::{AllocError, Global};
 
-/// Returns whether a symbol is exported, unless it is symbol number 0.
+/// Returns whether a symbol with these fields is exported, if its number isn't 0.
 #[tactic(auto, unfolding(crate::specs::Export::exports))]
 fn exports(symbol: Symbol) -> bool
     ensures { result ≡ exports symbol }

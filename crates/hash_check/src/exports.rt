@@ -10,8 +10,8 @@ use elf_dynamic::Object;
 use std::alloc::{AllocError, Global};
 
 /// Exported symbols of an object, with their names. The list has all exported symbols, or it is
-/// empty. It is empty only if fewer than two symbols are exported, and no memory has been allocated
-/// for them yet.
+/// empty. If it is empty, the object exports fewer than two symbols, and no memory has been
+/// allocated for the list yet.
 #[derive(Drop)]
 pub(crate) struct Exports<'a> {
     pub(crate) symbols: Vec<u32>,
@@ -30,7 +30,7 @@ impl<'a> Exports<'a> {
         }
     }
 
-    /// Returns all exported symbols with their names. If `self` is empty, makes these lists.
+    /// Returns all exported symbols with their names. If `self` is empty, makes the lists.
     pub(crate) fn whole(self, alloc: Global, object: &Object<'a>) -> Result<Exports<'a>, AllocError>
         requires exports { AreExports object.now self.symbols.items self.names.items }
         requires whole { self.symbols.items ≢ [] → IsWhole object.now self.symbols.items }

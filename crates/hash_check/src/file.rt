@@ -11,7 +11,7 @@ use std::alloc::Global;
 
 impl<'a> Admitted<'a> {
     /// Reads a file and admits it, or returns the refusal of the first of all tests that applies.
-    /// Costs as much as `Object::read` and `Admitted::admit`.
+    /// Takes as much time and memory as `Object::read` and `Admitted::admit` together.
     #[tactic(auto, using(crate::proofs::Reading::first_refusals))]
     pub fn read(alloc: Global, file: &'a [u8]) -> Result<Admitted<'a>, ReadRefusal>
         ensures ok { OnOk result (first_file_refusal file.now ≡ None) }

@@ -16,7 +16,7 @@ pub enum FileRefusal {
 /// The reason why a file isn't read as an admitted object.
 #[derive(Clone, Copy, Debug, PartialEq, Eq)]
 pub enum ReadRefusal {
-    /// The file is refused. The refusal is that of the first test that applies.
+    /// A test refuses the file. The refusal is that of the first test that applies.
     File(FileRefusal),
     /// The memory that admission needs was refused.
     OutOfMemory,

@@ -3,7 +3,7 @@
 ghost use Rattle.std.specs.Prelude.{◌≡◌, fold};
 ghost use Rattle.hash_check.specs.Hash.{hash_step, elf_hash};
 
-/// Returns the hash of a name whose last byte is `byte`; `hash` is the hash of the bytes before it.
+/// Returns the hash of a name whose last byte is `byte`. `hash` is the hash of the bytes before it.
 #[tactic(auto, unfolding(crate::specs::Hash::hash_step))]
 pub(crate) fn hash_step(hash: u32, byte: u8) -> u32
     ensures { result ≡ hash_step hash byte }

@@ -7,8 +7,8 @@ ghost use Rattle.hash_check.specs.Hash.{hash_step};
 use crate::hash::hash_step;
 use elf_file::u32_at;
 
-/// The number of names that are hashed at a time. Each step of a hash has to wait for the step
-/// before it, but not for the steps of other names' hashes.
+/// The number of names that are hashed at a time. Each step of a hash has to wait for the previous
+/// step of the same hash, but not for the steps of other hashes.
 pub(crate) const LANES: usize = 8;
 
 /// The number of bytes that are read at once.

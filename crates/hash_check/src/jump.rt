@@ -7,10 +7,10 @@ ghost use Rattle.hash_check.specs.inside.Places.{Known, Sound, IsBefore, place_a
 use crate::chains::Chains;
 use crate::place::{Place, known_place};
 
-/// Returns the place of an index on the walk from `head`. The next index on this walk is `next`. If
-/// the jump of `next` and the jump after it have the same length, the new jump leads over both.
-/// Otherwise the new jump is a single step. So a walk of n steps can be followed with about log n
-/// jumps.
+/// Returns the place of an index on the walk from `head`, from the place of the index `next`, which
+/// follows it on this walk. If the jump of `next` and the jump after that one have the same length,
+/// the new jump ends where the second of these jumps ends. Otherwise the new jump is a single step.
+/// In this way, about log n jumps follow a walk of n steps.
 pub(crate) fn place_before(
     places: &[Option<Place>],
     chains: &Chains<'_, '_>,

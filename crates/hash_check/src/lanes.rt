@@ -14,8 +14,8 @@ use crate::names::offset_of;
 use elf_dynamic::Object;
 
 /// Up to eight exported symbols whose names are hashed together. A lane has the number of a symbol,
-/// and the hash of the first bytes of the symbol's name. It also has the place and the end, in the
-/// string table, of the name's other bytes. A lane with symbol number 0 is free.
+/// the hash of the first bytes of the symbol's name, and the place and the end of the name's other
+/// bytes in the string table. A lane with symbol number 0 is free.
 #[derive(Clone, Copy)]
 pub(crate) struct Lanes {
     pub(crate) symbols: [u32; LANES],
@@ -24,7 +24,7 @@ pub(crate) struct Lanes {
     ends: [usize; LANES],
 }
 
-/// Returns the number of a lane with the fewest bytes that aren't hashed yet.
+/// Returns the number of the lane in which the fewest bytes remain to be hashed.
 fn shortest(places: &[usize; LANES], ends: &[usize; LANES]) -> usize
     requires { AreOrdered places.now ends.now }
     ensures within { result < 8 }
@@ -51,7 +51,7 @@ fn move_on(places: &mut [usize; LANES], count: usize)
 }
 
 impl Lanes {
-    /// Makes lanes that are all free.
+    /// Makes eight free lanes.
     pub(crate) fn new() -> Lanes
         ensures { (file : List ℕ) → AreLanes file result }
     {
@@ -63,8 +63,8 @@ impl Lanes {
         }
     }
 
-    /// Hashes the same number of bytes of each name: the number of bytes that are left in the lane
-    /// with the fewest bytes left. Returns the number of this lane.
+    /// Hashes the same number of bytes of each name: as many as remain in the lane in which the
+    /// fewest remain. Returns the number of this lane.
     pub(crate) fn run(&mut self, object: &Object<'_>) -> usize
         requires { AreLanes object.now self.old }
         ensures within { result < 8 }
@@ -94,8 +94,8 @@ impl Lanes {
         self.ends[k] = place + length;
     }
 
-    /// Returns the hash of the name of lane number `k`. The time depends on the number of bytes of
-    /// the name that aren't hashed yet.
+    /// Returns the hash of the name of lane number `k`. The time is proportional to the number of
+    /// bytes of the name that remain to be hashed.
     pub(crate) fn hash(&self, object: &Object<'_>, k: usize) -> u32
         requires within { k < 8 }
         requires lanes { AreLanes object.now self.now }

@@ -8,8 +8,8 @@ ghost use Rattle.hash_check.specs.inside.Places.{Depth, Known, Sound};
 use crate::chains::Chains;
 use crate::place::{Place, known_place, place_of};
 
-/// Returns the index on the walk from `from` that is `depth` steps before 0. If the walk from
-/// `from` has fewer than `depth` steps to 0, returns `from`.
+/// Returns the index on the walk from `from` at which `depth` steps remain to 0. If the walk from
+/// `from` takes fewer than `depth` steps to 0, returns `from`.
 fn at_depth(places: &[Option<Place>], chains: &Chains<'_, '_>, from: u32, depth: u32) -> u32
     requires words { AreIndices (length chains.now) chains.now }
     requires size { length places.now ≡ length chains.now }
@@ -31,9 +31,9 @@ fn at_depth(places: &[Option<Place>], chains: &Chains<'_, '_>, from: u32, depth:
     at
 }
 
-/// Returns whether the walk from `from` meets `index` before 0. Takes constant time if `head` of
-/// the place of `index` is `from`. If no two walks share an index, the time is constant for every
-/// index that the walk meets.
+/// Returns whether the walk from `from` meets `index` before 0. Takes constant time if the place of
+/// `index` has the head `from`. If no two walks share an index, the time is constant for each index
+/// that the walk meets.
 pub(crate) fn is_met(
     places: &[Option<Place>],
     chains: &Chains<'_, '_>,

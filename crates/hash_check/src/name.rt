@@ -49,8 +49,8 @@ impl<'a> Name<'a> {
         self.key
     }
 
-    /// Returns whether `other` has the same bytes. Compares the bytes only if the keys of both
-    /// names are the same.
+    /// Returns whether `other` has the same bytes. Compares the bytes only if both names have the
+    /// same key.
     pub(crate) fn is(&self, other: &Name<'_>) -> bool
         ensures { IsTrue result ↔ (self.now ≡ other.now) }
     {

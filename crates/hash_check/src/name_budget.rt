@@ -4,9 +4,9 @@ ghost use Rattle.std.specs.Prelude.{◌≡◌, ◌≤◌, ◌↔◌, ◌-◌, Is
 
 use std::marker::Model;
 
-/// The number of bytes of names that may still be read one by one. If none of the names is a tail
-/// of another, all names together have no more bytes than their string tables. So if the names have
-/// more than twice as many bytes as the string tables, plus 64 KiB, many names share bytes.
+/// The number of bytes of names that may still be read one by one. If no name is a tail of another,
+/// all names together have at most as many bytes as their string tables. So many names share bytes
+/// if the names have more than twice as many bytes as the string tables, plus 64 KiB.
 #[derive(Drop)]
 pub struct NameBudget {
     left: usize,
@@ -29,8 +29,8 @@ impl NameBudget {
         NameBudget { left }
     }
 
-    /// Takes the `length` bytes of a name from the budget. Returns whether the budget had enough
-    /// bytes.
+    /// Subtracts `length`, the length of a name, from the budget. Returns whether the budget was
+    /// large enough.
     pub fn take(&mut self, length: usize) -> bool
         ensures fits { IsTrue result ↔ length ≤ self.old }
         ensures left { self.new ≡ self.old - length }

@@ -8,8 +8,9 @@ ghost use Rattle.hash_check.specs.inside.NameTable.{home, IsPut};
 use crate::name::Name;
 use std::alloc::{AllocError, Global};
 
-/// The number of cells in which a name may be stored, counted from the name's home. More than half
-/// of all cells are empty, so keys that weren't chosen on purpose need only a few of these cells.
+/// The maximum distance of a name's cell from the name's home, in cells. More than half of all
+/// cells are empty, so names whose keys weren't chosen on purpose are only a few cells away from
+/// their homes.
 const FARTHEST: usize = 128;
 
 /// Returns the home of a key in a table of `count` cells: the first cell in which a name with this
@@ -27,8 +28,8 @@ fn home(count: usize, key: u64) -> usize
 }
 
 /// Adds name number `number` to `cells`, a table of the names with lower numbers, unless the table
-/// has an equal name. Returns the number in the name's cell, or `None` if the name would be stored
-/// too far from its home.
+/// already has an equal name. Returns the number in the name's cell, or `None` if the name would be
+/// stored too far from its home.
 fn put(names: &[Name<'_>], cells: &mut [u32], number: usize) -> Option<u32>
     requires number { number < length names.now }
     requires many { length names.now < 2 ^ 32 }
@@ -53,9 +54,9 @@ fn put(names: &[Name<'_>], cells: &mut [u32], number: usize) -> Option<u32>
     None
 }
 
-/// Returns the numbers of names, or `None` if a name would be stored too far from its home. This
-/// happens in files that were made to cause it. While it runs, allocates 12 bytes for each name.
-/// Four of these 12 bytes remain in the result.
+/// Returns the numbers of names, or `None` if a name would be stored too far from its home. Only
+/// files that were made for this purpose have such names. Allocates 12 bytes for each name, and
+/// frees all but 4 of them before it returns.
 pub(crate) fn numbers_in_table(
     alloc: Global,
     names: &[Name<'_>],

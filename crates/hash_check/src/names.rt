@@ -34,7 +34,8 @@ pub(crate) fn name_at<'a>(object: &Object<'a>, i: u32) -> &'a [u8]
     }
 }
 
-/// Returns the name of a symbol, given the name's length. Doesn't search for the name's end.
+/// Returns the name of symbol number `symbol`, which has `length` bytes. Doesn't search for the
+/// name's end.
 fn text_of<'a>(object: &Object<'a>, symbol: u32, length: usize) -> &'a [u8]
     requires symbol { IsSymbol object.now symbol }
     requires length { IsLengthOf object.now symbol length }
@@ -46,8 +47,8 @@ fn text_of<'a>(object: &Object<'a>, symbol: u32, length: usize) -> &'a [u8]
     &rest[..length]
 }
 
-/// Returns the names of symbols. If the symbols are sorted by the places of their names, each byte
-/// is read only once: a name that begins within the name before it ends where that name ends.
+/// Returns the names of symbols. If the symbols are sorted by the places of their names, reads each
+/// byte only once, because a name that begins within the name before it ends at the same place.
 pub(crate) fn names_of<'a>(
     alloc: Global,
     object: &Object<'a>,
@@ -69,8 +70,9 @@ pub(crate) fn names_of<'a>(
     Ok(names)
 }
 
-/// Returns the names of symbols in any order, each read to its end. Returns `None` if the names
-/// have too many bytes in total: many names are then tails of other names.
+/// Returns the names of symbols, which may be in any order, and reads each name to its end. Returns
+/// `None` if the names have too many bytes in total, because then many names are tails of other
+/// names.
 pub(crate) fn short_names<'a>(
     alloc: Global,
     object: &Object<'a>,

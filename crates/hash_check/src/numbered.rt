@@ -22,7 +22,7 @@ use std::alloc::{AllocError, Global};
 /// A symbol of one of several objects, with the number of its name.
 #[derive(Clone, Copy, PartialEq, Eq)]
 pub struct NumberedSymbol {
-    /// The number of the object in the list of objects.
+    /// The position of the object in the list of objects.
     pub object: usize,
     /// The number of the symbol in the object.
     pub symbol: u32,
@@ -30,7 +30,7 @@ pub struct NumberedSymbol {
     pub number: u32,
 }
 
-/// Symbols of objects and the names of these symbols. The names have no numbers yet.
+/// Symbols of objects, and the names of these symbols. No name has a number yet.
 #[derive(Drop)]
 struct Gathered<'a> {
     symbols: Vec<NumberedSymbol>,
@@ -79,8 +79,9 @@ fn symbols_by_name_place(alloc: Global, object: &Object<'_>) -> Result<Vec<u32>,
     Ok(symbols)
 }
 
-/// Returns all symbols of the objects with their names, each read to its end. Returns `None` if the
-/// names of an object have too many bytes in total: many names are then tails of other names.
+/// Returns all symbols of the objects with their names, and reads each name to its end. Returns
+/// `None` if the names of an object have too many bytes in total, because then many names are tails
+/// of other names.
 fn all_short_names<'a>(
     alloc: Global,
     objects: &[&'a Admitted<'a>],
@@ -104,8 +105,8 @@ fn all_short_names<'a>(
     Ok(Some(gathered))
 }
 
-/// Appends `endings` to `all`. The names of these endings come after `before` other names, so
-/// `before` is added to their numbers.
+/// Appends `endings` to `all`. Adds `before` to the numbers of the endings' names, because `before`
+/// other names come before them.
 #[tactic(auto, unfolding(crate::specs::inside::Numbered::behind))]
 fn add_endings<'a>(
     all: &mut Vec<Ending<'a>>,

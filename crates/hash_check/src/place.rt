@@ -8,7 +8,7 @@ use std::alloc::{AllocError, Global};
 
 /// The place of an index on its walk. `depth` is the number of chain steps from the index to 0.
 /// `jump` is an index further along the walk, and `landing` is the number of steps from `jump` to
-/// 0. `head` is an index; the walk from `head` meets the index that has this place.
+/// 0. `head` is an index from which a walk meets the index that has this place.
 #[derive(Clone, Copy)]
 pub(crate) struct Place {
     pub(crate) depth: u32,
@@ -37,7 +37,7 @@ pub(crate) fn known_place(places: &[Option<Place>], i: u32) -> Place
     }
 }
 
-/// Returns the list of the places of `n` indices. Only index 0 has a place in this list.
+/// Returns a list of places for `n` indices, in which only index 0 has a place.
 #[tactic(auto, unfolding(crate::specs::inside::Places::none_but_zero))]
 pub(crate) fn first_places(alloc: Global, n: usize) -> Result<Vec<Option<Place>>, AllocError>
     requires { 0 < n }

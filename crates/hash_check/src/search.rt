@@ -23,8 +23,7 @@ pub struct Found {
     pub compared: u32,
 }
 
-/// Returns the string at `offset` of a string table. If the string has more than `limit` bytes,
-/// returns its first `limit` bytes.
+/// Returns the string at `offset` of a string table, or its first `limit` bytes if it is longer.
 fn string_front(table: &[u8], offset: u32, limit: usize) -> &[u8]
     ensures { result.now ≡ take limit (string_at table.now offset) }
 {
@@ -38,8 +37,8 @@ fn string_front(table: &[u8], offset: u32, limit: usize) -> &[u8]
     front
 }
 
-/// Returns whether the string at an offset of a string table may have exactly `size` bytes. It may
-/// if the byte after them is 0, or if the table ends before that byte.
+/// Returns whether the string at `offset` of a string table may have exactly `size` bytes: the byte
+/// after them is 0, or the table ends before that byte.
 fn may_end(table: &[u8], offset: u32, size: usize) -> bool
     ensures { result ≡ false → length (string_at table.now offset) ≢ size }
 {
@@ -48,8 +47,8 @@ fn may_end(table: &[u8], offset: u32, size: usize) -> bool
 }
 
 /// Returns whether the name of symbol number `i` is `name`. First tests the byte that would follow
-/// the name, which excludes most names of other lengths. So of names that are tails of one string,
-/// usually only one is read whole.
+/// the name, which excludes most names of other lengths. For this reason, if names are tails of one
+/// string, usually only one of them is read whole.
 fn is_named(object: &Object<'_>, i: u32, name: &[u8]) -> bool
     requires { IsSymbol object.now i }
     ensures { result ≡ bytes_eq (name_of object.now i) name.now }

@@ -28,9 +28,9 @@ fn stretch_bytes<'a>(object: &Object<'a>, stretch: Stretch) -> &'a [u8]
     &rest[..stretch.length.min(rest.len())]
 }
 
-/// Returns the stretch in which the name of symbol number `i` begins. If the name begins in `last`,
-/// the stretch of the symbol before this one in the list, returns `last`. Otherwise returns the
-/// stretch that is the whole name.
+/// Returns the stretch in which the name of symbol number `i` begins: `last`, if the name begins in
+/// `last`, and otherwise the stretch that is the whole name. `last` is the stretch of the previous
+/// symbol in the list.
 pub(crate) fn stretch_of(object: &Object<'_>, last: Option<Stretch>, i: u32) -> Stretch
     requires symbol { IsSymbol object.now i }
     requires last { ForSome last (IsStretch object.now) }

@@ -29,8 +29,8 @@ use crate::walk::follow;
 use elf_dynamic::Object;
 use std::alloc::{AllocError, Global};
 
-/// The minimum length of a name that is hashed together with other names, in bytes. Hashing a
-/// shorter name takes less time than giving it a lane.
+/// The minimum length, in bytes, of a name that is hashed together with other names. For a shorter
+/// name, hashing takes less time than assigning a lane.
 const LONG: usize = 24;
 
 /// Returns whether there is a bucket, and every word of the table is the index of a symbol.
@@ -66,8 +66,8 @@ fn follow_all(
     Ok(Some(places))
 }
 
-/// Returns whether exported symbol `i` is met on the walk from `joint`, and therefore on the walks
-/// from all buckets. If it is, its name doesn't have to be hashed.
+/// Returns whether the walk from `joint` meets exported symbol `i`. If it does, the walks from all
+/// buckets meet it too, and its name doesn't have to be hashed.
 fn is_met_by_all(object: &Object<'_>, places: &[Option<Place>], joint: u32, i: u32) -> bool
     requires some { HasBucket object.now }
     requires words { HasIndexWords object.now }
@@ -79,7 +79,7 @@ fn is_met_by_all(object: &Object<'_>, places: &[Option<Place>], joint: u32, i: u
     is_met(places, &Chains::new(object), joint, i)
 }
 
-/// Returns whether symbol `i` is met on the walk from the bucket of `hash`.
+/// Returns whether the walk from the bucket of `hash` meets symbol `i`.
 fn is_met_by_hash(object: &Object<'_>, places: &[Option<Place>], hash: u32, i: u32) -> bool
     requires some { HasBucket object.now }
     requires words { HasIndexWords object.now }
@@ -93,7 +93,7 @@ fn is_met_by_hash(object: &Object<'_>, places: &[Option<Place>], hash: u32, i: u
     is_met(places, &Chains::new(object), from, i)
 }
 
-/// Returns whether lane number `k` is free, or its symbol is met on the walk from the bucket of its
+/// Returns whether lane number `k` is free, or its symbol is on the walk from the bucket of its
 /// name's hash.
 fn is_lane_met(object: &Object<'_>, places: &[Option<Place>], lanes: &Lanes, k: usize) -> bool
     requires some { HasBucket object.now }
@@ -108,9 +108,9 @@ fn is_lane_met(object: &Object<'_>, places: &[Option<Place>], lanes: &Lanes, k: 
     symbol == 0 || is_met_by_hash(object, places, lanes.hash(object, k), symbol)
 }
 
-/// Finishes the hash of one lane. Returns whether the lane was free, or its symbol is met on the
-/// walk from the bucket of this hash. If so, also assigns the lane to exported symbol `i`, whose
-/// name has `length` bytes.
+/// Finishes the hash of one lane. Returns whether the lane was free, or its symbol is on the walk
+/// from the bucket of this hash. If so, also assigns the lane to exported symbol `i`, whose name
+/// has `length` bytes.
 fn take_in(
     object: &Object<'_>,
     places: &[Option<Place>],
@@ -138,9 +138,9 @@ fn take_in(
     met
 }
 
-/// Tests exported symbol `i` by its name's hash. A short name is hashed at once. A long name gets a
-/// lane, and its symbol is tested when its hash is finished. Returns whether each symbol that this
-/// call tested is met on the walk from the bucket of its name's hash.
+/// Tests exported symbol `i` by its name's hash. Hashes a short name at once. Assigns a lane to a
+/// long name, whose symbol is tested when its hash is finished. Returns whether each symbol that
+/// this call tested is on the walk from the bucket of its name's hash.
 fn test_by_name(
     object: &Object<'_>,
     places: &[Option<Place>],
@@ -167,8 +167,8 @@ fn test_by_name(
     }
 }
 
-/// Returns whether each lane is free, or its symbol is met on the walk from the bucket of its
-/// name's hash.
+/// Returns whether each lane is free, or its symbol is on the walk from the bucket of its name's
+/// hash.
 fn are_met(object: &Object<'_>, places: &[Option<Place>], lanes: &Lanes) -> bool
     requires some { HasBucket object.now }
     requires words { HasIndexWords object.now }
@@ -184,8 +184,9 @@ fn are_met(object: &Object<'_>, places: &[Option<Place>], lanes: &Lanes) -> bool
     true
 }
 
-/// Returns whether each exported symbol is met on the walk from the bucket of its name's hash.
-/// Hashes a name only if its symbol isn't met on all walks. Hashes long names several at a time.
+/// Returns whether each exported symbol is on the walk from the bucket of its name's hash. Hashes a
+/// name only if its symbol isn't on the walks from all buckets. Hashes long names several at a
+/// time.
 fn meets_exports(object: &Object<'_>, places: &[Option<Place>], exports: &Exports<'_>) -> bool
     requires some { HasBucket object.now }
     requires words { HasIndexWords object.now }
@@ -216,7 +217,7 @@ fn has_good_table<'a>(
     requires exports { AreExports object.now exports.symbols.items exports.names.items }
     requires whole { exports.symbols.items ≢ [] → IsWhole object.now exports.symbols.items }
     ensures ok { IfOk result (λ good. IsTrue good ↔ HasGoodTable object.now) }
-    // Memory is needed only after the words have been tested.
+    // The function allocates memory only after the words have passed their test.
     ensures err { OnErr result (HasBucket object.now × HasIndexWords object.now) }
 {
     if !has_index_words(object) {
@@ -229,10 +230,10 @@ fn has_good_table<'a>(
     }
 }
 
-/// Returns whether the hash table can't be trusted. Allocates about 24 bytes a symbol while it
-/// runs, and follows each chain word once. An exported symbol is looked up in one step on the walk
-/// that met it first, and in about log n steps on other walks of n steps. A symbol's name is hashed
-/// only if the symbol isn't met on all walks.
+/// Returns whether the hash table can't be trusted. Allocates about 24 bytes for each symbol while
+/// it runs, and follows each chain word once. On the walk that met an exported symbol first, the
+/// symbol is found in one step. On another walk of n steps, it is found in about log n steps.
+/// Hashes a symbol's name only if the symbol isn't on the walks from all buckets.
 #[tactic(auto, using(crate::proofs::Deciding::bad_test, crate::proofs::Deciding::words_test))]
 pub(crate) fn has_bad_hash_table<'a>(
     alloc: Global,

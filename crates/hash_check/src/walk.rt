@@ -12,8 +12,8 @@ use crate::place::{Place, place_of};
 use std::alloc::AllocError;
 
 /// Follows the walk from `from` up to an index that has a place, and appends the indices before
-/// this index to `path`. Returns whether the walk ends. A walk that doesn't end fills `path` with
-/// as many indices as there are chain words.
+/// this index to `path`. Returns whether the walk ends. If it doesn't end, `path` gets as many
+/// indices as there are chain words.
 fn climb(
     places: &[Option<Place>],
     path: &mut Vec<u32>,
@@ -42,7 +42,7 @@ fn climb(
 }
 
 /// Stores the places of the indices in `path`, which begins at `from`. Begins with the last index,
-/// because each place is computed from the next index's place.
+/// because the place of each index is computed from that of the next index.
 fn place_path(places: &mut [Option<Place>], path: &mut Vec<u32>, chains: &Chains<'_, '_>, from: u32)
     requires words { AreIndices (length chains.now) chains.now }
     requires size { length places.old ≡ length chains.now }

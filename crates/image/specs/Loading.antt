@@ -8,7 +8,7 @@ use Rattle.image.specs.Heading.{Heading, holds}
 use Rattle.image.specs.Permissions.{permission_bits}
 use Rattle.image.specs.Placement.{Placed}
 
--- a PT_LOAD in memory: its heading, and the bytes from the file, with which it begins
+-- a PT_LOAD in memory: its heading, and its first bytes, which come from the file
 pub record Loaded : Type 0 where
   pub heading : Heading
   pub contents : List ℕ

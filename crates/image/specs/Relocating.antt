@@ -16,8 +16,8 @@ use Rattle.scope.specs.declared.target.Target.TheVariants.{Zero, At}
 use Rattle.image.specs.Heading.{within}
 use Rattle.image.specs.Placement.{Placed, named}
 
--- An object is identified by its number, which is its place in load order: two objects may have the same bytes. No
--- definition here uses a number after the last object's.
+-- An object is identified by its number, its position in load order, because two objects may have
+-- the same bytes. No definition here uses a number that no object has.
 
 -- the base of object number `own`
 abbrev pub base_at : List Placed → ℕ → ℕ
@@ -44,17 +44,17 @@ address_of base symbol = if is_absolute symbol then symbol.value else (base + sy
 abbrev pub own_address : List Placed → ℕ → ℕ → ℕ
 own_address objects object symbol = option_map_or (address_of (base_at objects object)) (slice_get (symbols (file_at objects object)) symbol) 0
 
--- the value of a target: 0, or the address of the symbol
+-- the value of a target: 0 for the target `Zero`, and otherwise the address of the symbol
 abbrev pub target_value : List Placed → Target → ℕ
 target_value objects Zero = 0
 target_value objects (At object symbol) = own_address objects object symbol
 
--- the value of symbol number `symbol` of object number `own`; none if it is undefined
+-- the value of symbol number `symbol` of object number `own`, or none if the symbol is undefined
 unfoldable pub symbol_value : List Placed → ℕ → ℕ → Option ℕ
 symbol_value objects own symbol = option_map (target_value objects) (target (map named objects) own symbol)
 
--- The value that relocation `r` of an object at `base` writes; none if its symbol has no value, or if its type writes
--- nothing. `values` returns the value of a symbol by the symbol's number.
+-- The value that relocation `r` of an object at `base` writes, or none if its symbol has no value
+-- or its type writes nothing. `values` returns the value of a symbol by the symbol's number.
 abbrev pub value_with : ℕ → (ℕ → Option ℕ) → Relocation → Option ℕ
 value_with base values r =
     if r.kind == R_X86_64_RELATIVE then Some ((base + r.addend) % 2 ^ 64)
@@ -65,11 +65,11 @@ value_with base values r =
 abbrev pub value_of : List Placed → ℕ → Relocation → Option ℕ
 value_of objects own r = value_with (base_at objects own) (symbol_value objects own) r
 
--- relocation `r` has a type that writes, and its value is undefined
+-- relocation `r` has a type that writes, but it has no value
 abbrev pub is_undefined : List Placed → ℕ → Relocation → Bool
 is_undefined objects own r = is_writing r.kind && is_none (value_of objects own r)
 
--- the first relocation of object number `own` whose value is undefined
+-- the first relocation of object number `own` that has no value, or none
 abbrev pub first_undefined : List Placed → ℕ → Option Relocation
 first_undefined objects own = find (is_undefined objects own) (relocations_of objects own)
 
@@ -78,7 +78,8 @@ pub record Write : Type 0 where
   pub place : ℕ
   pub value : ℕ
 
--- the write of relocation `r` of an object at `base`; `values` returns the value of a symbol by the symbol's number
+-- the write of relocation `r` of an object at `base`, or none; `values` returns the value of a
+-- symbol by the symbol's number
 abbrev pub write_with : ℕ → (ℕ → Option ℕ) → Relocation → Option Write
 write_with base values r = option_map (λ value. record { place = base + r.offset; value = value }) (value_with base values r)
 
@@ -94,7 +95,7 @@ all_writes objects = flat_map (writes_of objects) (range_with_len 0 (length obje
 abbrev pub last_write_at : List Write → ℕ → Option Write
 last_write_at writes address = find (λ w. within w.place 8 address) (reverse writes)
 
--- the byte that the write stores at an address; if there is no write, the loaded byte
+-- the byte that the write stores at an address, or the loaded byte if there is no write
 abbrev pub written_or : Option Write → Option ℕ → ℕ → Option ℕ
 written_or (Some w) loaded address = Some (byte_at (address - w.place) w.value)
 written_or None loaded address = loaded

@@ -19,14 +19,14 @@ use scope::Order;
 use std::alloc::{AllocError, Global};
 use std::marker::Model;
 
-/// An object at its base, with the values of the symbols that its relocations name. Given these
-/// values, the object's segments are computed only from its file. In contracts, the value is the
+/// An object at its base, with the values of the symbols to which its relocations refer. Given
+/// these values, the object's segments depend only on its file. In contracts, the value is the
 /// object's name, its base and these values.
 #[derive(Drop)]
 pub struct BoundObject {
     name: Name,
     base: u64,
-    // The values by symbol number, eight bytes for each symbol.
+    // The values, in the order of the symbol numbers: eight bytes for each symbol.
     values: Vec<u64>,
 }
 
@@ -46,7 +46,7 @@ impl BoundObject {
         self.base
     }
 
-    /// The values of the object's symbols, by symbol number.
+    /// The values of the object's symbols, in the order of the symbol numbers.
     pub(crate) fn values(&self) -> &[u64]
         ensures { result.now ≡ self.now.values }
     {
@@ -73,7 +73,7 @@ impl BoundObject {
     }
 }
 
-/// Returns the values of the symbols that the relocations of object number `own` name. If a
+/// Returns the values of the symbols to which the relocations of object number `own` refer. If a
 /// relocation's symbol is undefined, returns the refusal for the first such relocation. Looks up
 /// each symbol once.
 fn symbol_values(
@@ -134,13 +134,14 @@ fn all_bound(alloc: Global, objects: &PlacedOrder<'_>) -> Result<Vec<BoundObject
     Ok(bound)
 }
 
-/// Places a program and its libraries, and finds the values of the symbols that their relocations
-/// name. `order` has the program and the libraries in load order, and `base` is the program's base.
+/// Places a program and its libraries, and finds the values of the symbols to which their
+/// relocations refer. `order` has the program and the libraries in load order, and `base` is the
+/// program's base.
 ///
 /// Returns the objects, or the first of these refusals: memory would end above 2^47 - 4,096 (B4); a
 /// relocation's symbol is undefined (B5).
 ///
-/// The time is linear in the relocations, except for a search for each symbol by its name.
+/// The time is linear in the relocations, except that each symbol is searched by its name.
 /// Allocates eight bytes for each symbol.
 pub fn bound_objects(
     alloc: Global,
@@ -149,8 +150,8 @@ pub fn bound_objects(
 ) -> Result<Vec<BoundObject>, BindRefusal>
     requires { is_good_base (file_at order.now 0) base ≡ true }
 
-    // Returns objects only if no test applies. Otherwise returns the refusal of the first test that
-    // applies. If the program's own memory doesn't end too high, OutOfMemory is possible too.
+    // Returns objects only if no test refuses. Otherwise returns the refusal of the first test that
+    // refuses. May also return OutOfMemory, if the end of the program's own memory isn't too high.
     ensures accepted { OnOk result (placed_refusal (place base order.now) ≡ None) }
     ensures refused { IfErr result (IsPlacedAnswer (place base order.now)) }
 

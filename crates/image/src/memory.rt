@@ -7,8 +7,8 @@ ghost use Rattle.image.specs.inside.Segments.{padded};
 use std::alloc::AllocError;
 use std::marker::Model;
 
-/// The bytes of a segment: a slice of kept bytes, and the zeros after them, which take no memory.
-/// In contracts, the value is all of these bytes.
+/// The bytes of a segment: a slice of stored bytes, and after them zeros, which take no memory. In
+/// contracts, the value is all of these bytes.
 #[derive(Drop)]
 pub struct Memory<'a> {
     front: &'a [u8],
@@ -27,7 +27,7 @@ impl<'a> Model for Memory<'a> {
 }
 
 impl<'a> Memory<'a> {
-    /// Makes `size` bytes, which begin with `front` and continue with zeros.
+    /// Makes `size` bytes: those of `front`, and then zeros.
     pub fn new(front: &'a [u8], size: u32) -> Memory<'a>
         requires { length front.now ≤ size }
         ensures { result ≡ padded front.now size }
@@ -44,7 +44,7 @@ impl<'a> Memory<'a> {
         self.size as usize
     }
 
-    /// Returns the bytes that are kept. All bytes after them are zeros.
+    /// Returns the stored bytes. All bytes after them are zeros.
     #[tactic(auto, using(crate::proofs::Padding::length_padded))]
     pub fn front(&self) -> &'a [u8]
         ensures within { length result.now ≤ length self.now }

@@ -1,22 +1,21 @@
-// An index of the segments' first addresses, for objects that have many segments.
+// An index of the segments' first addresses, for objects with many segments.
 
 ghost use Rattle.std.specs.Prelude.{◌<◌, ◌^◌};
 
 use crate::segment::Segment;
 use std::alloc::{AllocError, Global};
 
-/// The maximum number of segments of an object for which the index stays empty.
+/// The maximum number of segments of an object whose index stays empty.
 const FEW: usize = 16;
-/// The number of bytes of memory in a part.
+/// The number of bytes of memory that a part of the index covers.
 const PART: u64 = 1024;
-/// The maximum number of parts: they cover the 64 MiB that the memory of an object may reach.
+/// The maximum number of parts. They cover 64 MiB, the maximum size of an object's memory.
 const PARTS: u64 = 65536;
 
-/// An index of an object's segments, which guesses the segment that has an address. The index
-/// divides the memory from the first segment on into parts. For each part, the index has the number
-/// of segments that begin before the part. A binary search is then needed only among the segments
-/// that begin in one part. The caller tests the guess, so this type's contracts say nothing about
-/// it.
+/// An index of an object's segments, which guesses the segment that has an address. It divides the
+/// memory, from the first segment on, into parts. For each part, it has the number of segments that
+/// begin before the part. So only the segments that begin in one part need a binary search. The
+/// caller tests each guess, so the contracts of this type state nothing about the guesses.
 #[derive(Drop)]
 pub(crate) struct MemoryParts {
     first: u64,
@@ -24,8 +23,8 @@ pub(crate) struct MemoryParts {
 }
 
 impl MemoryParts {
-    /// Makes the index of `segments`. If there are few segments, the index is empty. Makes one pass
-    /// over the segments. Allocates eight bytes for each part, at most 512 KiB.
+    /// Makes the index of `segments`, which is empty if there are few segments. Makes one pass over
+    /// the segments. Allocates eight bytes for each part, at most 512 KiB.
     pub(crate) fn of(alloc: Global, segments: &[Segment]) -> Result<MemoryParts, AllocError> {
         let mut parts = MemoryParts {
             first: 0,
@@ -49,7 +48,8 @@ impl MemoryParts {
         (place.saturating_sub(self.first) / PART).min(PARTS) as usize
     }
 
-    /// Returns how many of the `count` segments begin before part number `part`.
+    /// Returns the number of segments that begin before part number `part`. There are `count`
+    /// segments.
     fn begun_before(&self, part: usize, count: usize) -> usize {
         match self.begun.get(part) {
             Some(begun) => *begun,
@@ -57,8 +57,8 @@ impl MemoryParts {
         }
     }
 
-    /// Guesses the number of the last segment that begins at or below `place`. The guess is right
-    /// if this is the index of `segments`.
+    /// Guesses the number of the last segment that begins at or below `place`. If this is the index
+    /// of `segments`, the guess is right.
     pub(crate) fn guess(&self, segments: &[Segment], place: u64) -> usize {
         let part = self.part_of(place);
         let low = self.begun_before(part, segments.len());

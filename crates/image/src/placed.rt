@@ -39,7 +39,8 @@ impl<'a> Model for PlacedOrder<'a> {
 }
 
 impl<'a> PlacedOrder<'a> {
-    /// Places the objects of `order`. The program's base is `base`. Costs what `place` costs.
+    /// Places the objects of `order`. The program's base is `base`. Takes as much time and memory
+    /// as `place`.
     pub fn of(
         alloc: Global,
         order: &'a Order<'a>,
@@ -48,9 +49,9 @@ impl<'a> PlacedOrder<'a> {
         requires { is_good_base (ordered.file_at order.now 0) base ≡ true }
         ensures ok { IfOk result (λ placed. placed ≡ place base order.now) }
 
-        // Refuses if the memory of an object would end above 2^47 - 4,096. Otherwise returns the
-        // objects or OutOfMemory. OutOfMemory is possible only if the program's own memory doesn't
-        // end too high.
+        // Refuses with NoRoom if the memory of an object would end above 2^47 - 4,096. Otherwise
+        // returns the objects or OutOfMemory. OutOfMemory is possible only if the end of the
+        // program's own memory isn't too high.
         ensures room { OnOk result (lacks_room (place base order.now) ≡ false) }
         ensures refused { IfErr result (IsPlaceAnswer (place base order.now)) }
     {
@@ -62,7 +63,7 @@ impl<'a> PlacedOrder<'a> {
     pub fn count(&self) -> usize
         ensures count { result ≡ length self.now }
 
-        // The following facts hold for all objects.
+        // The clauses from here on hold for all objects.
         ensures stacked { Stacked 0 self.now }
         ensures accepted { AllAccepted self.now }
     {
@@ -90,7 +91,7 @@ impl<'a> PlacedOrder<'a> {
         requires { i < length self.now }
         ensures file { result.now ≡ file_at self.now i }
 
-        // The following facts hold for all objects.
+        // The clauses from here on hold for all objects.
         ensures stacked { Stacked 0 self.now }
         ensures accepted { AllAccepted self.now }
     {
@@ -98,8 +99,8 @@ impl<'a> PlacedOrder<'a> {
         admitted.object()
     }
 
-    /// Returns the symbol to which symbol number `symbol` of object number `own` is bound. Costs
-    /// what `resolve` costs.
+    /// Returns the symbol to which symbol number `symbol` of object number `own` is bound. Takes as
+    /// much time as `resolve`.
     pub fn target(&self, own: usize, symbol: u32) -> Result<Target, Undefined>
         requires own { own < length self.now }
         requires symbol { symbol < length (symbols (file_at self.now own)) }
@@ -124,8 +125,8 @@ impl<'a> PlacedOrder<'a> {
         }
     }
 
-    /// Returns the value of symbol number `symbol` of object number `own`, unless it is undefined.
-    /// Costs a search for the symbol's name.
+    /// Returns the value of symbol number `symbol` of object number `own`, or `Undefined` if it has
+    /// none. Searches for the symbol's name.
     #[tactic(auto, unfolding(crate::specs::Relocating::symbol_value))]
     pub(crate) fn symbol_value(&self, own: usize, symbol: u32) -> Result<u64, Undefined>
         requires own { own < length self.now }

@@ -30,8 +30,8 @@ fn unit(object: &Object<'_>) -> u64
         .fold(PAGE, |unit, alignment| unit.max(alignment))
 }
 
-/// Returns how far the memory of `object` reaches from its base, in bytes. That is the end of its
-/// last PT_LOAD, because each PT_LOAD ends at or below the beginning of the next one.
+/// Returns the number of bytes from the base of `object` to the end of its memory. This is the end
+/// of the last PT_LOAD, because each PT_LOAD ends at or below the beginning of the next one.
 fn reach(object: &Object<'_>) -> u64
     ensures { result ≡ reach object.now }
 {
@@ -137,8 +137,8 @@ pub fn place(alloc: Global, order: &Order<'_>, base: u64) -> Result<Vec<u64>, Bi
     ensures order { IsOrder order.now }
     ensures ok { IfOk result (λ bases. bases.items ≡ map (λ p. p.base) (place base order.now)) }
 
-    // Returns bases only if no memory ends above the limit. Otherwise returns NoRoom. If the
-    // program's own memory doesn't end too high, OutOfMemory is possible too.
+    // Returns bases only if no memory ends above the limit. Otherwise returns NoRoom. May also
+    // return OutOfMemory, if the end of the program's own memory isn't too high.
     ensures room { OnOk result (lacks_room (place base order.now) ≡ false) }
     ensures refused { IfErr result (IsPlaceAnswer (place base order.now)) }
 {

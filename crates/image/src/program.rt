@@ -18,17 +18,17 @@ use hash_check::{Admitted, ReadRefusal};
 use scope::{Library, load_order};
 use std::alloc::Global;
 
-/// Reads and admits a program, and tests its base. These tests need none of the other objects.
-/// Returns the program, or the first of these refusals: its file is refused (B1); the base isn't a
-/// multiple of the program's unit (B2). Costs what `Admitted::read` costs.
+/// Reads and admits a program, and tests its base. These tests need no other object. Returns the
+/// program, or the first of these refusals: its file is refused (B1); the base isn't a multiple of
+/// the program's unit (B2). Takes as much time and memory as `Admitted::read`.
 #[tactic(auto, unfolding(crate::specs::Refusal::program_refusal))]
 pub fn admit_program(alloc: Global, file: &[u8], base: u64) -> Result<Admitted<'_>, BindRefusal>
 
-    // Returns a program only if neither test applies.
+    // Returns a program only if neither test refuses.
     ensures accepted { OnOk result (program_refusal file.now base ≡ None) }
     ensures same { IfOk result (λ program. program ≡ file.now) }
 
-    // Otherwise returns the refusal of the first test that applies, or OutOfMemory if admission
+    // Otherwise returns the refusal of the first test that refuses, or OutOfMemory if admission
     // allocates.
     ensures refused { IfErr result (IsProgramAnswer file.now base) }
 {
@@ -43,7 +43,7 @@ pub fn admit_program(alloc: Global, file: &[u8], base: u64) -> Result<Admitted<'
     Ok(program)
 }
 
-/// Binds an admitted program at a base that is a multiple of its unit: makes the tests of
+/// Binds an admitted program at a base that is a multiple of its unit. Makes the tests of
 /// `bind_program` from B3 on.
 fn bind_admitted(
     alloc: Global,
@@ -57,19 +57,19 @@ fn bind_admitted(
     requires preloads { All (λ p. p < length libraries.now) preloads.now }
     requires distinct { IsDistinct nat_eq preloads.now }
 
-    // Returns an image only if no test applies.
+    // Returns an image only if no test refuses.
     ensures accepted { OnOk result
         (bind_refusal program.now base libraries.now preloads.now ≡ None) }
 
-    // Otherwise returns the refusal of the first test that applies, or OutOfMemory.
+    // Otherwise returns the refusal of the first test that refuses, or OutOfMemory.
     ensures refused { IfErr result (IsAnswer program.now base libraries.now preloads.now) }
 
     // The image has the defined objects and segments, and their defined bytes.
     ensures ok { IfOk result (λ image. image
         ≡ image_of (objects_of program.now base libraries.now preloads.now)) }
 
-    // At every address, the image has the byte that is defined for this address, or no byte if none
-    // is defined.
+    // At every address, the image has the byte that is defined for this address, or no byte if no
+    // byte is defined.
     ensures bytes { IfOk result (λ image. (a : ℕ) → image_byte image a
         ≡ byte_of (objects_of program.now base libraries.now preloads.now) a) }
 {
@@ -84,8 +84,7 @@ fn bind_admitted(
 /// multiple of the program's unit (B2); a needed library isn't among `libraries` (B3); memory would
 /// end above 2^47 - 4,096 (B4); a relocation's symbol is undefined (B5).
 ///
-/// Admission costs what `Admitted::read` costs, the load order what `load_order` costs, and the
-/// rest what `bind` costs.
+/// Takes as much time and memory as `Admitted::read`, `load_order` and `bind` together.
 pub fn bind_program(
     alloc: Global,
     file: &[u8],
@@ -97,10 +96,10 @@ pub fn bind_program(
     requires preloads { All (λ p. p < length libraries.now) preloads.now }
     requires distinct { IsDistinct nat_eq preloads.now }
 
-    // Returns an image only if no test applies.
+    // Returns an image only if no test refuses.
     ensures accepted { OnOk result (bind_refusal file.now base libraries.now preloads.now ≡ None) }
 
-    // Otherwise returns the refusal of the first test that applies, or OutOfMemory if admission
+    // Otherwise returns the refusal of the first test that refuses, or OutOfMemory if admission
     // allocates. Admission comes after the tests of the file's bytes, and before all other tests.
     ensures refused { IfErr result (IsAnswer file.now base libraries.now preloads.now) }
 
@@ -108,8 +107,8 @@ pub fn bind_program(
     ensures ok { IfOk result (λ image. image
         ≡ image_of (objects_of file.now base libraries.now preloads.now)) }
 
-    // At every address, the image has the byte that is defined for this address, or no byte if none
-    // is defined.
+    // At every address, the image has the byte that is defined for this address, or no byte if no
+    // byte is defined.
     ensures bytes { IfOk result (λ image. (a : ℕ) → image_byte image a
         ≡ byte_of (objects_of file.now base libraries.now preloads.now) a) }
 {
@@ -117,22 +116,22 @@ pub fn bind_program(
     bind_admitted(alloc, &program, base, libraries, preloads)
 }
 
-/// Binds a program that needs no library, as `bind_program` does without libraries and preloads.
-/// Any library that the program needs is missing (B3).
+/// Binds a program that needs no library. Does the same as `bind_program` without libraries and
+/// preloads. If the program needs a library, the library is missing (B3).
 pub fn bind_alone(alloc: Global, file: &[u8], base: u64) -> Result<Image, BindRefusal>
 
-    // Returns an image only if no test applies.
+    // Returns an image only if no test refuses.
     ensures accepted { OnOk result (alone_refusal file.now base ≡ None) }
 
-    // Otherwise returns the refusal of the first test that applies, or OutOfMemory if admission
+    // Otherwise returns the refusal of the first test that refuses, or OutOfMemory if admission
     // allocates.
     ensures refused { IfErr result (IsAnswer file.now base [] []) }
 
     // The image has the defined objects and segments, and their defined bytes.
     ensures ok { IfOk result (λ image. image ≡ image_of (alone file.now base)) }
 
-    // At every address, the image has the byte that is defined for this address, or no byte if none
-    // is defined.
+    // At every address, the image has the byte that is defined for this address, or no byte if no
+    // byte is defined.
     ensures bytes { IfOk result (λ image.
         (a : ℕ) → image_byte image a ≡ byte_of (alone file.now base) a) }
 {

@@ -1,4 +1,4 @@
-// Why a program isn't bound.
+// The reasons why a program isn't bound.
 
 ghost use Rattle.std.specs.Prelude.{◌≡◌, IfOk};
 ghost use Rattle.image.specs.Refusal.{IsOrWantsMemory};
@@ -9,10 +9,10 @@ use names::Name;
 use scope::OrderRefusal;
 use std::alloc::{AllocError, Global};
 
-/// Why a program isn't bound at a base. The variants are in the order of the tests.
+/// The reason why a program isn't bound at a base. The variants are in the order of the tests.
 #[derive(Debug, Drop, PartialEq, Eq)]
 pub enum BindRefusal {
-    /// B1: the file isn't accepted. The refusal is that of the first test that applies.
+    /// B1: the program's file is refused. The refusal is that of the first test that refuses it.
     Program(FileRefusal),
     /// B2: the base isn't a multiple of the program's unit.
     BadBase,
@@ -25,7 +25,7 @@ pub enum BindRefusal {
     },
     /// B4: the memory of an object would end above 2^47 - 4,096.
     NoRoom,
-    /// B5: an object's relocation names a symbol that no object defines.
+    /// B5: an object's relocation refers to a symbol that no object defines.
     Undefined {
         /// The object's name.
         object: Name,
@@ -72,7 +72,8 @@ fn named_undefined(alloc: Global, object: &[u8], symbol: &[u8]) -> Result<BindRe
 }
 
 impl BindRefusal {
-    /// Returns `Undefined` with copies of the names, or `OutOfMemory` if they can't be copied.
+    /// Returns `Undefined` with copies of the names, or `OutOfMemory` if memory for the copies is
+    /// refused.
     pub fn undefined(alloc: Global, object: &[u8], symbol: &[u8]) -> BindRefusal
         ensures { IsOrWantsMemory (Undefined object.now symbol.now) result }
     {

@@ -22,8 +22,8 @@ use crate::value::written_value;
 use elf_dynamic::{Object, Relocation};
 use std::alloc::{AllocError, Global};
 
-/// If `relocation`, which belongs to an object at `base`, writes a value, writes this value into
-/// the segments. Returns the number of the segment into which the value was written, or `near` if
+/// Writes the value of `relocation`, which belongs to an object at `base`, into the segments, if it
+/// writes a value. Returns the number of the segment into which the value was written, or `near` if
 /// the relocation writes nothing.
 fn relocate_one(
     segments: &mut [Segment],
@@ -51,7 +51,7 @@ fn relocate_one(
 /// order of the relocations.
 ///
 /// A relocation that lies in the same segment as the relocation before it takes constant time. Any
-/// other relocation takes a binary search: over all segments if there are few segments, and
+/// other relocation takes a binary search: over all segments if there are few of them, and
 /// otherwise over the segments that begin in one part of the index.
 fn relocate(
     segments: &mut [Segment],
@@ -75,8 +75,8 @@ fn relocate(
     Ok(())
 }
 
-/// Returns the segments of `object` at `base`, after the object's relocations were written into
-/// these segments.
+/// Returns the segments of `object` at `base`, into which the object's relocations have been
+/// written.
 pub(crate) fn relocated(
     alloc: Global,
     object: &Object<'_>,

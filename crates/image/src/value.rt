@@ -15,7 +15,8 @@ use elf_dynamic::{
 use scope::Undefined;
 use std::alloc::{AllocError, Global};
 
-/// The values of an object's symbols by symbol number, with flags that mark the known values.
+/// The values of an object's symbols, in the order of the symbol numbers, with flags that mark the
+/// known values.
 #[derive(Drop)]
 pub(crate) struct Values {
     pub(crate) values: Vec<u64>,
@@ -23,7 +24,7 @@ pub(crate) struct Values {
 }
 
 impl Values {
-    /// Makes room for `count` values, none of which is known.
+    /// Makes room for `count` values, none of which is known yet.
     pub(crate) fn unknown(alloc: Global, count: u32) -> Result<Values, AllocError>
         ensures values { IfOk result (λ v. v.values.items ≡ replicate count 0) }
         ensures known { IfOk result (λ v. v.known.items ≡ replicate count false) }
@@ -36,8 +37,8 @@ impl Values {
     }
 }
 
-/// Finds the value of symbol number `symbol` of object number `own`, unless the symbol is
-/// undefined. If the value isn't known yet, looks it up and stores it in `found`.
+/// Finds the value of symbol number `symbol` of object number `own`, and stores it in `found`,
+/// unless it is known already. Returns `Undefined` if the symbol is undefined.
 fn find_value(
     objects: &PlacedOrder<'_>,
     own: usize,
@@ -60,8 +61,8 @@ fn find_value(
     Ok(())
 }
 
-/// If the type of `relocation`, which belongs to object number `own`, uses a symbol, finds the
-/// value of this symbol, unless the symbol is undefined.
+/// Finds the value of the symbol that `relocation`, which belongs to object number `own`, uses, if
+/// its type uses a symbol. Returns `Undefined` if the symbol is undefined.
 pub(crate) fn find_value_of(
     objects: &PlacedOrder<'_>,
     own: usize,

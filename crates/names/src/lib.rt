@@ -1,7 +1,7 @@
-//! The names in refusals, replies and listings, as owned byte strings.
+//! The names in refusals, replies and listings, as byte strings that own their memory.
 //!
-//! Contracts see a `Name` as the list of its bytes. So an enum or a struct that has names is plain
-//! data in definitions.
+//! In contracts, a `Name` is the list of its bytes. So in definitions, an enum or a struct with
+//! names is plain data.
 #![tactic(auto)]
 
 mod name;

@@ -7,7 +7,7 @@ ghost use Rattle.std.specs.Cmp.Lexicographic.{nat_list_eq_equiv};
 use std::alloc::{AllocError, Global};
 use std::marker::Model;
 
-/// A name: any bytes, in memory that the name owns. Contracts see its bytes.
+/// A name: any bytes, in memory that the name owns. In contracts, the value is these bytes.
 #[derive(Debug, Drop)]
 pub struct Name {
     bytes: Vec<u8>,
@@ -22,7 +22,7 @@ impl Model for Name {
 }
 
 impl Name {
-    /// Returns a name with a copy of `bytes`. The only error is that memory was refused.
+    /// Returns a name with a copy of `bytes`. Fails only if memory is refused.
     pub fn copy_of(alloc: Global, bytes: &[u8]) -> Result<Name, AllocError>
         ensures { IfOk result (λ name. name ≡ bytes.now) }
     {

@@ -8,7 +8,7 @@ use Rattle.sector_disk.specs.Disk.{Sector, sector}
 abbrev pub bytes_at : List Sector → List ℕ → List ℕ
 bytes_at m ks = flat_map (sector m) ks
 
--- n bytes: the given ones, cut off after n or followed by zeros
+-- n bytes: the first n of `bytes`, or all of `bytes` and then zeros if there are fewer
 abbrev pub padded : ℕ → List ℕ → List ℕ
 padded n bytes = take n (bytes ++ replicate n 0)
 

@@ -2,8 +2,8 @@
 use Rattle.std.specs.Prelude.{◌≡◌, ◌≤◌, ◌+◌, ◌-◌, ℕ, Result, OnOk, OnErr}
 use Rattle.sector_disk.specs.Disk.{DiskFacts, calls_between, LogGrows, Mixture, KeepsPast, IsUnchanged, LeavesOnly}
 
--- Calls were made in a row, on any disk, honest or not, up to the first call that failed. If none
--- failed, n calls were made.
+-- On any disk, honest or not, calls were made one after the other up to the first call that failed.
+-- If no call failed, n calls were made.
 pub record AreCallsInRow {T E : Type 0} (n : ℕ) (old new : DiskFacts) (result : Result T E) : Type 0 where
   pub honest : new.honest ≡ old.honest
   pub sectors : new.sectors ≡ old.sectors

@@ -13,7 +13,7 @@ use crate::write::write_bytes;
 use extents::Extent;
 use sector_disk::{Disk, DiskFault, SECTOR_BYTES};
 
-/// Returns the number of single sectors, from the first on, that lie before a file's extents.
+/// Returns the number of single sectors at the front of the list that lie before a file's extents.
 fn count_before(extents: &[Extent], singles: &[SingleSector]) -> usize
     ensures { result ≤ length singles.now }
 {
@@ -26,10 +26,9 @@ fn count_before(extents: &[Extent], singles: &[SingleSector]) -> usize
     }
 }
 
-/// Writes a file's bytes into its extents, and writes each single sector. The single sectors are
-/// written in their order. Those at the front of the list that lie before the file's first extent
-/// are written before the bytes, so that neighbours are written one after the other. The call
-/// doesn't sync.
+/// Writes a file's bytes into its extents, and writes each single sector. Writes the single sectors
+/// in their order. Writes those at the front of the list that lie before the file's first extent
+/// before the bytes, so that adjacent sectors are written one after the other. Doesn't sync.
 pub fn write_unsynced<D: Disk>(
     disk: &mut D,
     extents: &[Extent],
@@ -52,7 +51,7 @@ pub fn write_unsynced<D: Disk>(
         (IsMixtureBut (Contains (single_places singles.now ++ places extents.now))
         (D.facts disk.old)) }
 
-    // Reads of all other sectors return what they returned before.
+    // Reads of all other sectors return the same contents as before.
     ensures now { IsTrue (D.facts disk.old).honest → OnOk result
         (SameBut (Contains (single_places singles.now ++ places extents.now))
         (D.facts disk.old).now (D.facts disk.new).now) }
@@ -68,8 +67,8 @@ pub fn write_unsynced<D: Disk>(
     write_singles(disk, back)
 }
 
-/// The first pass of a change: writes a file's bytes and single sectors, as `write_unsynced` does,
-/// and syncs.
+/// Makes the first pass of a change: writes a file's bytes and single sectors in the same way as
+/// `write_unsynced`, and syncs.
 pub fn stage<D: Disk>(
     disk: &mut D,
     extents: &[Extent],
@@ -92,7 +91,7 @@ pub fn stage<D: Disk>(
         (IsMixtureBut (Contains (single_places singles.now ++ places extents.now))
         (D.facts disk.old)) }
 
-    // Reads of all other sectors return what they returned before.
+    // Reads of all other sectors return the same contents as before.
     ensures now { IsTrue (D.facts disk.old).honest → OnOk result
         (SameBut (Contains (single_places singles.now ++ places extents.now))
         (D.facts disk.old).now (D.facts disk.new).now) }
@@ -107,7 +106,7 @@ pub fn stage<D: Disk>(
     disk.sync()
 }
 
-/// The second pass of a change: writes the sector `root` to sector number `at`, and syncs.
+/// Makes the second pass of a change: writes the sector `root` to sector number `at`, and syncs.
 pub fn switch_root<D: Disk>(
     disk: &mut D,
     at: u32,
@@ -116,8 +115,8 @@ pub fn switch_root<D: Disk>(
     requires room { at < (D.facts disk.old).sectors }
     ensures calls { AreCallsInRow 2 (D.facts disk.old) (D.facts disk.new) result }
 
-    // A stop at any moment leaves what a stop could leave before, or the same with the new content
-    // of sector `at`.
+    // A stop at any moment leaves contents that a stop could leave before the call, or the same
+    // contents with the new content of sector `at`.
     ensures any_moment { IsTrue (D.facts disk.old).honest
         → LeavesOnly (D.facts disk.old) (D.facts disk.new)
         (IsMixtureOrSet (D.facts disk.old) at root.now) }

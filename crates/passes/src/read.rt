@@ -47,7 +47,8 @@ fn read_run<D: Disk>(disk: &mut D, extent: Extent, into: &mut [u8]) -> Result<()
     Ok(())
 }
 
-/// Reads the bytes of the extents' sectors into `into`, in their order. Each sector is read once.
+/// Reads the bytes of the extents' sectors into `into`, in the order of the extents. Reads each
+/// sector once.
 pub fn read_bytes<D: Disk>(
     disk: &mut D,
     extents: &[Extent],

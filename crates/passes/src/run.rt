@@ -10,8 +10,8 @@ ghost use Rattle.passes.specs.Bytes.{bytes_at, padded};
 use extents::Extent;
 use sector_disk::{Disk, DiskFault, SECTOR_BYTES};
 
-/// Writes at most one sector of bytes, followed by zeros up to the end of the sector. A whole
-/// sector isn't copied.
+/// Writes at most one sector of bytes, followed by zeros up to the end of the sector. Doesn't copy
+/// the bytes of a whole sector.
 fn write_sector<D: Disk>(disk: &mut D, at: u32, bytes: &[u8]) -> Result<(), DiskFault>
     requires room { at < (D.facts disk.old).sectors }
     requires fits { length bytes.now ≤ sector_bytes }

@@ -16,7 +16,7 @@ pub struct SingleSector {
     pub content: [u8; SECTOR_BYTES],
 }
 
-/// Writes single sectors, in their order. Each is written once.
+/// Writes single sectors, in their order, each of them once.
 pub(crate) fn write_singles<D: Disk>(
     disk: &mut D,
     singles: &[SingleSector],

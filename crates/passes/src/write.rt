@@ -10,7 +10,7 @@ use extents::Extent;
 use sector_disk::{Disk, DiskFault, SECTOR_BYTES};
 
 /// Writes bytes into the sectors of the extents, in their order, and zeros after the last byte.
-/// Each sector is written once.
+/// Writes each sector once.
 pub fn write_bytes<D: Disk>(disk: &mut D, extents: &[Extent], bytes: &[u8]) -> Result<(), DiskFault>
     requires inside { All (IsOnDisk (D.facts disk.old).sectors) extents.now }
     requires fits { (D.facts disk.old).sectors < 2 ^ 32 }

@@ -19,8 +19,8 @@ struct File {
 /// A registry without a disk: the libraries in the order in which they were installed, and the
 /// names of the preloads in their order.
 ///
-/// This registry has only two limits: the room of a disk, and 2,048 libraries. The caller has to
-/// observe the other limits: at most 16 preloads and 2^64 - 1 changes.
+/// This registry has only two limits: the room of a disk, and 2,048 libraries. The caller must keep
+/// the other limits: at most 16 preloads and 2^64 - 1 changes.
 pub struct PlainRegistry {
     alloc: Global,
     // The number of sectors of the disk.
@@ -53,7 +53,7 @@ fn catalogues_of(libraries: usize) -> usize {
     libraries.div_ceil(64)
 }
 
-// Returns whether one of the names occurs twice.
+// Returns whether one of the names occurs more than once.
 fn has_twice(names: &[&[u8]]) -> bool {
     for (at, name) in names.iter().enumerate() {
         if names[..at].contains(name) {
@@ -83,7 +83,7 @@ impl PlainRegistry {
         }
     }
 
-    /// Changes the room to that of a disk of `sectors` sectors.
+    /// Sets the room to that of a disk of `sectors` sectors.
     pub fn set_sectors(&mut self, sectors: u32) {
         self.sectors = sectors;
     }
@@ -118,9 +118,9 @@ impl PlainRegistry {
         true
     }
 
-    // Returns whether the disk has room for one more file. Besides all files it needs two sectors
-    // for the roots, and twice the catalogues of `libraries` libraries: the current ones, and those
-    // that the next change writes.
+    // Returns whether the disk has room for one more file. In addition to the sectors of all files,
+    // it must have two sectors for the roots, and twice the catalogues of `libraries` libraries:
+    // the current ones, and those that the next change writes.
     fn has_room(&self, file: &[u8], libraries: usize) -> bool {
         let mut taken = sectors_of(file).saturating_add(2);
         for other in &self.files {

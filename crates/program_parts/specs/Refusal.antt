@@ -50,7 +50,7 @@ object_refusal_name RelocationSymbol = codes "E31 RelocationSymbol"
 object_refusal_name RelocationPlace = codes "E32 RelocationPlace"
 object_refusal_name BadSoname = codes "E33 BadSoname"
 
--- the text after the name: the type, if the refusal is for a relocation's type
+-- the text after the name: the type, if the refusal is about a relocation's type
 abbrev pub object_refusal_detail : ObjectRefusal → List ℕ
 object_refusal_detail (RelocationType kind) = codes " " ++ decimal kind
 object_refusal_detail refusal = []

@@ -14,11 +14,12 @@ use Rattle.image.specs.Text.{image_text}
 use Rattle.store.specs.declared.refusal.StoreRefusal.TheVariants as disk
 use Rattle.program_parts.specs.Refusal.{disk_refusal_text, file_refusal_text, refusal_text}
 
--- the line of a refusal; `said` is the number and the name of the refusal, and any text after them
+-- the line of a refusal; `said` is the number and the name of the refusal, and the text after them,
+-- if there is any
 abbrev pub refused_line : List ℕ → List ℕ
 refused_line said = codes "refused " ++ said ++ codes "\n"
 
--- The line of a command's refusal. C1 is followed by the refusal of the file. A refused bind has the
+-- The line of a command's refusal. After C1, it has the refusal of the file. A refused bind has the
 -- line `refusal_text`, and a refusal of the disk has the line `disk_refusal_text`.
 abbrev pub command_refusal_text : Refusal → List ℕ
 command_refusal_text (Object refusal) = refused_line (codes "C1 " ++ file_refusal_text refusal)

@@ -1,7 +1,7 @@
 -- The streams of a program: its input, its output and standard error (own).
 use Rattle.std.specs.Prelude.{ℕ, List, Option}
 
--- the bytes that the input has left, and the bytes that the output and standard error hold before and
+-- the bytes that the input still has, and the bytes of the output and of standard error before and
 -- after; each is none if it isn't known
 pub record Streams : Type 0 where
   pub unread : Option (List ℕ)

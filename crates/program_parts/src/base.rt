@@ -34,8 +34,8 @@ fn digits_of(word: &str) -> Option<&str>
     }
 }
 
-/// Returns the number that a base encodes, or `None` if the word isn't a base. A base is `0x`,
-/// followed by 1 to 16 hexadecimal digits of either case.
+/// Returns the number that a base encodes, or `None` if the word isn't a base. A base is `0x` and,
+/// after it, 1 to 16 hexadecimal digits of either case.
 pub fn parse_base(word: &str) -> Option<u64>
     ensures { result ≡ base_of word.now }
 {

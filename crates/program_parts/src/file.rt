@@ -10,11 +10,11 @@ use std::fs::File;
 use std::io::{ErrorKind, Read};
 use std::rt::Files;
 
-/// The limit on the length of a file, in bytes. A file of 1 GiB or more isn't read, so a device
-/// without an end counts as a file that can't be read.
+/// The limit for the length of a file, in bytes. A file of 1 GiB or more isn't read, so a device
+/// without an end is a file that can't be read.
 const READ_LIMIT: usize = 0x4000_0000;
 
-/// The number of bytes that are read at once.
+/// The maximum number of bytes that one read requests.
 const PAGE: usize = 0x10000;
 
 /// The reason why a file wasn't read.
@@ -37,7 +37,7 @@ pub fn read_file<R: Files>(rt: &R, alloc: Global, path: &str) -> Result<Vec<u8>,
 }
 
 // Reads once into a page, and returns the number of bytes that were read, which is 0 only at the
-// end of the file. If a signal interrupted the read, returns `None`.
+// end of the file. Returns `None` if a signal interrupted the read.
 fn read_page<F: Read>(file: &mut F, page: &mut [u8; PAGE]) -> Result<Option<usize>, FileFault>
     ensures most { IfOk result (λ count. IfSome count (λ n. n ≤ 65536)) }
     ensures bytes { IfOk result (λ count. MatchOption count
@@ -52,9 +52,9 @@ fn read_page<F: Read>(file: &mut F, page: &mut [u8; PAGE]) -> Result<Option<usiz
     }
 }
 
-/// If a file has fewer than `limit` bytes, reads the file to its end; otherwise returns an error.
-/// Reads through a page on the stack, so that refused memory can be distinguished from a read that
-/// fails.
+/// Reads a file to its end if it has fewer than `limit` bytes, and otherwise returns an error.
+/// Reads through a page on the stack, so that refused memory can be distinguished from a failed
+/// read.
 pub fn read_all<F: Read>(alloc: Global, file: &mut F, limit: usize) -> Result<Vec<u8>, FileFault>
     ensures short { IfOk result (λ bytes. length bytes.items < limit) }
     // If the remaining bytes of the reader are known, the result has all of them.

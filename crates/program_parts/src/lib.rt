@@ -1,6 +1,6 @@
 //! The parts that the programs of a registry share: exit statuses, the arguments and standard
-//! streams of a process, and files that are read whole. They also share messages on standard error,
-//! and the texts of replies and refusals.
+//! streams of a process, and reads of whole files. They also share messages on standard error, and
+//! the texts of replies and refusals.
 #![tactic(auto)]
 
 mod base;

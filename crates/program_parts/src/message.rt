@@ -1,4 +1,4 @@
-// Messages on standard error. If a write to standard error fails, the status doesn't change.
+// Messages on standard error. A failed write to standard error doesn't change the status.
 
 ghost use Rattle.std.specs.Prelude.{◌≡◌, ◌++◌, codes, OnOk};
 ghost use Rattle.std.specs.Io.KnownBytes.{Appends};
@@ -9,8 +9,8 @@ use crate::status::Status;
 use std::io::{ErrorKind, Write};
 use text_output::{LINE, OutputBuffer, WriteFault};
 
-/// Writes a line to a stream, with one write if the stream accepts the whole line at once. If the
-/// stream fails or accepts no more bytes, stops.
+/// Writes a line to a stream, with one write if the stream accepts the whole line at once. Stops if
+/// the stream fails or accepts no more bytes.
 pub fn say<E: Write>(errors: &mut E, line: &[u8])
     ensures { AppendsFront (E.contents errors.old) (E.contents errors.new) line.now }
 {

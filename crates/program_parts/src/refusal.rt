@@ -55,7 +55,7 @@ fn object_refusal_name(refusal: ObjectRefusal) -> &'static [u8]
     }
 }
 
-/// Appends the text after the name of a refusal: the type, if the refusal is for a relocation's
+/// Appends the text after the name of a refusal: the type, if the refusal is about a relocation's
 /// type.
 fn put_detail<const SIZE: usize, W: Write>(
     line: &mut OutputBuffer<SIZE>,
@@ -106,7 +106,7 @@ pub fn put_file_refusal<const SIZE: usize, W: Write>(
     }
 }
 
-/// Writes the number and the name of a file's refusal, and the text after the name, with one write
+/// Writes the number and the name of a file's refusal, and the text after the name, in one write
 /// and without a newline.
 pub fn write_file_refusal<W: Write>(out: &mut W, refusal: FileRefusal) -> Result<(), WriteFault>
     ensures { OnOk result

@@ -120,8 +120,8 @@ fn put_listing<W: Write>(line: &mut Line, out: &mut W, listing: &Listing) -> Res
     Ok(())
 }
 
-/// Appends the text of a reply. For an image, appends nothing: `put_reply` writes an image with a
-/// buffer of its own.
+/// Appends the text of a reply, except for an image: `put_reply` writes an image through a buffer
+/// of its own.
 fn put_short_reply<W: Write>(line: &mut Line, out: &mut W, reply: &Reply) -> Result<(), WriteFault>
     ensures ok { OnOk result (Sends (W.contents out.old) line.old (W.contents out.new) line.new
         (short_text reply.now)) }
@@ -135,7 +135,7 @@ fn put_short_reply<W: Write>(line: &mut Line, out: &mut W, reply: &Reply) -> Res
     }
 }
 
-/// Appends the text of a reply to the buffered text. An image is written at once, after the
+/// Appends the text of a reply to the buffered text. Writes an image immediately, after the
 /// buffered text. Allocates no memory.
 pub fn put_reply<W: Write>(line: &mut Line, out: &mut W, reply: &Reply) -> Result<(), WriteFault>
     ensures { OnOk result (Sends (W.contents out.old) line.old (W.contents out.new) line.new

@@ -6,8 +6,8 @@ use std::os::unix::fs::{FileTypeExt, MetadataExt};
 use std::rt::Files;
 use std::{fs, io};
 
-/// The folder that is opened in place of a closed stream. If the folder is open for reading,
-/// no byte can be read from it or written to it.
+/// The folder that is opened instead of a closed stream. No byte can be read from it or written to
+/// it, because it is a folder.
 const FOLDER: &str = "/";
 
 /// The paths that name the files of the standard streams.
@@ -17,29 +17,29 @@ const OUTPUT: &str = "/proc/self/fd/1";
 
 const ERRORS: &str = "/proc/self/fd/2";
 
-/// The numbers of the standard streams. While this value exists, no file that is opened gets one of
-/// these numbers.
+/// The numbers of the standard streams. As long as this value exists, no file that is opened gets
+/// one of these numbers.
 ///
-/// The system gives a file the lowest free number. Suppose that a process was started with a closed
-/// standard stream. Then the next file that is opened would be that stream, and a message on the
-/// stream would be written into the file.
+/// The system gives a file the lowest free number. If a process was started with a closed standard
+/// stream, the next file that it opens would become this stream, and a message on the stream would
+/// be written into the file.
 #[derive(Drop)]
 pub struct StandardStreams<F> {
-    /// Three files are enough to take the three numbers if all of them are free. Otherwise some of
-    /// the files have greater numbers.
+    /// Three files are enough to occupy the three numbers if all of them are free. If some are
+    /// occupied already, some of the files have greater numbers.
     held: [F; 3],
 }
 
 impl<F: Drop> StandardStreams<F> {
-    /// Occupies those of the three numbers that are free. Has to be called before any other file is
-    /// opened. Afterwards each read and each write of a stream that was closed fails. Returns an
-    /// error if the numbers can't be taken.
+    /// Occupies those of the three numbers that are free. You must call this before you open any
+    /// other file. After the call, each read and each write of a stream that was closed fails.
+    /// Returns an error if the numbers can't be occupied.
     pub fn hold<R: Files<File = F>>(rt: &R) -> io::Result<StandardStreams<F>> {
         let held = open_three(rt)?;
         Ok(StandardStreams { held })
     }
 
-    /// Releases the numbers. Has to be called after the last file was opened.
+    /// Releases the numbers. You must call this after you have opened the last file.
     pub fn release(self) {
         let StandardStreams { held } = self;
         drop(held);
@@ -55,19 +55,19 @@ fn open_three<R: Files>(rt: &R) -> io::Result<[R::File; 3]> {
     ])
 }
 
-/// How the standard streams of the process are related to the file at a path. No file is opened to
-/// find this out.
+/// The relation of the standard streams of the process to the file at a path. It is determined
+/// without opening a file.
 #[derive(Clone, Copy)]
 pub enum Behind {
-    /// The streams are open to other files than the path's, or to no file.
+    /// The streams lead to other files than the path, or to no file.
     Other,
-    /// The input or the output is open to the path's file, or the file of a stream is unknown.
+    /// The input or the output leads to the path's file, or the file of a stream is unknown.
     OtherStream,
-    /// Standard error is open to the path's file, so a message would be written into this file.
+    /// Standard error leads to the path's file, so a message would be written into this file.
     Errors,
 }
 
-/// Returns how the standard streams are related to the file at `path`. The input counts only if
+/// Returns the relation of the standard streams to the file at `path`. The input counts only if
 /// `reads_input` is true.
 pub fn behind_streams<R: Files>(rt: &R, path: &str, reads_input: bool) -> Behind {
     let Ok(found) = fs::metadata(rt, path) else {
@@ -89,8 +89,8 @@ pub fn behind_streams<R: Files>(rt: &R, path: &str, reads_input: bool) -> Behind
     }
 }
 
-/// Returns whether the stream with the path `stream` is open to the file `found`, or `None` if that
-/// is unknown. If there is no such path, returns `Some(false)`.
+/// Returns whether the stream with the path `stream` leads to the file `found`, or `None` if this
+/// is unknown. Returns `Some(false)` if there is no such path.
 fn is_behind<R: Files>(rt: &R, found: &Metadata, stream: &str) -> Option<bool> {
     match fs::metadata(rt, stream) {
         Ok(behind) => Some(is_same_file(found, &behind)),

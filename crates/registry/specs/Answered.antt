@@ -1,4 +1,4 @@
--- How a command is answered on any disk, even on a disk that lies, and how the command changes the
+-- The answers to a command on any disk, honest or not, and the effect of the command on the
 -- registry (own).
 use Rattle.std.specs.Prelude.{◌≡◌, ◌≢◌, ◌<◌, ◌↔◌, IsTrue, IsFalse, List, [], ◌∷◌, None}
 use Rattle.sector_disk.specs.Disk.{DiskFacts, AreCalls}
@@ -13,7 +13,7 @@ use Rattle.requests.specs.declared.refusal.Refusal.TheVariants.{Bind, Device, Re
 use Rattle.requests.specs.declared.reply.Reply.{Reply}
 use Rattle.requests.specs.declared.reply.Reply.TheVariants.{Done, Listing, Bound, Refused}
 
--- the refusals that any change may be answered with
+-- the refusals that any change may return
 abbrev pub IsChangeRefusal : Refusal → Type 0
 IsChangeRefusal Device = Unit
 IsChangeRefusal Reopen = Unit
@@ -21,7 +21,8 @@ IsChangeRefusal NotInstalled = Unit
 IsChangeRefusal GenerationEnd = Unit
 IsChangeRefusal other = ⊥
 
--- the refusals of a replacement: those of any change, and those that its file may cause
+-- the refusals of a replacement: those of any change, and those for which its file may be the
+-- reason
 abbrev pub IsReplaceRefusal : Refusal → Type 0
 IsReplaceRefusal (Object refusal) = Unit
 IsReplaceRefusal Full = Unit
@@ -47,7 +48,7 @@ IsPreloadsRefusal TooManyPreloads = Unit
 IsPreloadsRefusal RepeatedPreload = Unit
 IsPreloadsRefusal other = IsChangeRefusal other
 
--- the refusals of a bind: B1 to B5, S1, S2, S5 and S11; if memory is refused, the refusal is S11
+-- the refusals of a bind: B1 to B5, S1, S2, S5 and S11; S11 if memory is refused
 abbrev pub IsBindRefusal : Refusal → Type 0
 IsBindRefusal (Bind binding.OutOfMemory) = ⊥
 IsBindRefusal (Bind refusal) = Unit
@@ -63,7 +64,7 @@ IsListRefusal Reopen = Unit
 IsListRefusal OutOfMemory = Unit
 IsListRefusal other = ⊥
 
--- the answers to a change: Done, or a refusal for which `Refuses` holds
+-- the answers to a change: Done, or a refusal that `Refuses` allows
 abbrev pub IsChangeAnswer : (Refusal → Type 0) → Reply → Type 0
 IsChangeAnswer Refuses Done = Unit {0}
 IsChangeAnswer Refuses (Refused refusal) = Refuses refusal
@@ -81,7 +82,7 @@ IsListAnswer (Listing listing) = Unit {0}
 IsListAnswer (Refused refusal) = IsListRefusal refusal
 IsListAnswer other = ⊥
 
--- the answers that a command may get
+-- the possible answers to a command
 abbrev pub IsAnswerTo : Request → Reply → Type 0
 IsAnswerTo (install bytes) = IsChangeAnswer IsInstallRefusal
 IsAnswerTo (replace bytes) = IsChangeAnswer IsReplaceRefusal
@@ -90,19 +91,21 @@ IsAnswerTo (set_preloads names) = IsChangeAnswer IsPreloadsRefusal
 IsAnswerTo (bind program base) = IsBindAnswer
 IsAnswerTo list = IsListAnswer
 
--- The registry after a change. After Done, it can be used; after S1, it has to be opened again; after
--- any other refusal, nothing has changed.
+-- The registry after a change. After Done, it can be used. After S1, it has to be opened again.
+-- After any other refusal, it is unchanged.
 abbrev pub ChangeLeaves : {D : Type 0} → Opened D → Opened D → Reply → Type 0
 ChangeLeaves old new Done = IsFalse new.failed
 ChangeLeaves old new (Refused refusal) = (refusal ≡ Device → IsTrue new.failed) × (refusal ≢ Device → new ≡ old)
 ChangeLeaves old new other = Unit {0}
 
--- the root, the entries, the held byte strings and the mark of a failed write or sync are unchanged
+-- the root, the entries, the held byte strings and the flag whether a write or a sync failed are
+-- unchanged
 abbrev pub KeepsState : {D : Type 0} → Opened D → Opened D → Type 0
 KeepsState old new = (new.root ≡ old.root) × (new.entries ≡ old.entries) × (new.held ≡ old.held) × (new.failed ≡ old.failed)
 
--- A change leaves what `ChangeLeaves` defines. A bind keeps what `KeepsState` lists; if a test refuses
--- the program by itself, the bind changes nothing. A listing changes nothing.
+-- The registry after a command. After a change, it is as `ChangeLeaves` defines. After a bind, the
+-- parts that `KeepsState` lists are unchanged, and everything is unchanged if a test of the program
+-- without its libraries refuses it. After a listing, it is unchanged.
 abbrev pub Leaves : {D : Type 0} → Opened D → Opened D → Request → Reply → Type 0
 Leaves old new (bind program base) answer = KeepsState old new × (program_refusal program base ≢ None → new ≡ old)
 Leaves old new list answer = new ≡ old
@@ -110,7 +113,8 @@ Leaves old new change answer = ChangeLeaves old new answer
 
 -- On any disk, a command was answered with `answer`, and changed the registry from `old` to `new`.
 pub record Did {D : Type 0} (facts : D → DiskFacts) (old new : Opened D) (request : Request) (answer : Reply) : Type 0 where
-  -- The answer is S2 if and only if a write or a sync failed before. In that case nothing is done.
+  -- The answer is S2 if and only if an earlier write or sync failed. In this case the command does
+  -- nothing.
   pub reopen : (answer ≡ Refused Reopen) ↔ IsTrue old.failed
   pub failed : IsTrue old.failed → new ≡ old
   -- the answer is S1 only if a call of the disk failed
@@ -124,8 +128,7 @@ pub record Did {D : Type 0} (facts : D → DiskFacts) (old new : Opened D) (requ
   pub holds_after : AreHolds new
   pub calls : AreCalls (facts old.disk) (facts new.disk)
 
--- the command had the effect that `Did` defines, and `answer` is one of the answers that the command may
--- get
+-- the command had the effect that `Did` defines, and `answer` is one of its possible answers
 pub record Answered {D : Type 0} (facts : D → DiskFacts) (old new : Opened D) (request : Request) (answer : Reply) : Type 0 where
   pub did : Did facts old new request answer
   pub answers : IsAnswerTo request answer

@@ -16,12 +16,12 @@ use Rattle.registry.specs.Phase.{phase_of}
 -- The sectors that a stop during a command may leave. `Holds` defines which state a list of sectors
 -- holds.
 module _ (Holds : List Sector → State → Type 0) where
-  -- The answer is S1, although no test refuses the command, and the sectors m hold the state after the
-  -- command. So a failing device cut the change off, but the change took effect.
+  -- The answer is S1, although no test refuses the command, and the sectors m hold the state after
+  -- the command: the change took effect, although the device failed before its end.
   abbrev pub InFlightBy : Phase → Request → Reply → List Sector → Type 0
   InFlightBy p request answer m = (answer ≡ Refused Device) × (refusal_at p request ≡ None) × Holds m (accepted p.state request)
 
-  -- the sectors m hold the state before the command, the state after the command, or the state after a
+  -- the sectors m hold the state before the command, or the state after it, or the state after a
   -- change for which `InFlightBy` holds
   abbrev pub MayLeaveBy : Phase → Request → Reply → State → List Sector → Type 0
   MayLeaveBy p request answer s' m = Holds m p.state ⊎ Holds m s' ⊎ InFlightBy p request answer m
@@ -36,11 +36,12 @@ pub record AppliedBy (Holds : List Sector → State → Type 0) (StepsTo : Phase
   -- at the end the registry is at s'; or a write or a sync failed, and s' equals s
   pub kept : At new s' ⊎ (IsTrue new.failed × (s' ≡ s))
 
--- a failing device cut off a change of a registry, but the sectors m hold the state after the change
+-- the device failed during a change of a registry, but the sectors m hold the state after the
+-- change
 abbrev pub InFlight : Phase → Request → Reply → List Sector → Type 0
 InFlight p request answer m = InFlightBy Stands p request answer m
 
--- a stop within a command of a registry may leave the sectors m
+-- a stop during a command of a registry may leave the sectors m
 abbrev pub MayLeaveWithin : Phase → Request → Reply → State → List Sector → Type 0
 MayLeaveWithin p request answer s' m = MayLeaveBy Stands p request answer s' m
 

@@ -14,8 +14,8 @@ use Rattle.image.specs.Image.{MemoryImage}
 abbrev pub data_sectors : List ℕ → ℕ
 data_sectors bytes = div_ceil (length bytes) sector_bytes
 
--- the number of sectors that hold the libraries in the load order of a program; the program itself isn't
--- counted
+-- the number of sectors that hold the libraries in the load order of a program, not counting the
+-- program itself
 abbrev pub bind_sectors : State → List ℕ → ℕ
 bind_sectors s program = sum_by (λ o. data_sectors o.file) (drop 1 (load_order program (objects s) (preload_numbers s)))
 
@@ -24,7 +24,7 @@ abbrev pub bound_answer : Result MemoryImage Refusal → Reply
 bound_answer (Ok image) = Bound image
 bound_answer (Err refusal) = Refused refusal
 
--- if the reply is an image, P holds
+-- P holds if the reply is an image
 abbrev pub IfBound : Reply → Type 0 → Type 0
 IfBound (Bound image) P = P
 IfBound other P = Unit {0}

@@ -1,5 +1,5 @@
--- The effect of an update's commands on its draft. The draft is the state that the update has planned so
--- far; no sectors hold this state before the commit (own).
+-- The effect of an update's commands on its draft. The draft is the state that the update has
+-- planned so far. No sectors hold this state before the commit (own).
 use Rattle.std.specs.Prelude.{◌≡◌, ◌≢◌, ◌⊎◌, ◌<◌, ◌↔◌, ℕ, List, IsTrue, IsFalse, None}
 use Rattle.sector_disk.specs.Disk.{DiskFacts, AreCalls, AreCallsAtMost, AreCallsExactly, IsUnchanged, LeavesOnly}
 use Rattle.states.specs.State.{State}
@@ -16,10 +16,10 @@ use Rattle.registry.specs.Answered.{IsAnswerTo}
 use Rattle.registry.specs.Binding.{IfBound, bind_sectors}
 use Rattle.registry.specs.Untested.{UntestedStep}
 
--- The phase of a draft, for the step table. `lone` counts the sectors in use that don't belong to the
--- draft's state. These are the sectors of current entries that aren't in the draft, and the sectors that
--- only binders hold. If the current list has more catalogues than the draft needs, each of the extra
--- catalogues counts as two sectors.
+-- The phase of a draft, for the step table. `lone` counts the sectors in use that don't belong to
+-- the draft's state: those of current entries that aren't in the draft, and those that only binders
+-- hold. If the current list has more catalogues than the draft needs, each additional catalogue
+-- counts as two sectors.
 abbrev pub draft_phase : {D : Type 0} → (D → DiskFacts) → Drafted D → State → Phase
 draft_phase facts u d = record {
   sectors = (facts u.store.disk).sectors;
@@ -30,8 +30,8 @@ draft_phase facts u d = record {
   state = d;
 }
 
--- No test refuses the library, but a write of its file failed. The draft is unchanged, and every later
--- answer is S2.
+-- The tests accept the library, but a write of its file failed. The draft is unchanged, and the
+-- answer to every later request is S2.
 pub record LosesDraft (p : Phase) (request : Request) (p' : Phase) : Type 0 where
   pub sectors : p'.sectors ≡ p.sectors
   pub risen : p.failures < p'.failures
@@ -39,16 +39,16 @@ pub record LosesDraft (p : Phase) (request : Request) (p' : Phase) : Type 0 wher
   pub untested : refusal_at p request ≡ None
   pub state : p'.state ≡ p.state
 
--- How a change of a draft may be answered. The step table tests the change. An accepted change is
--- planned: the draft then includes the change, and keeps the generation of the current state.
+-- The possible answers to a change of a draft. The step table tests the change. An accepted change
+-- is planned: the draft then includes the change, and keeps the generation of the current state.
 abbrev pub PlanStep : Phase → Request → Reply → Phase → Type 0
 PlanStep p request (Refused Device) p' = IsFalse p.failed × LosesDraft p request p'
 PlanStep p request (Refused refusal) p' = Step p request (Refused refusal) p'
 PlanStep p request answer p' =
     IsFalse p.failed × (refusal_at p request ≡ None) × (answer ≡ Done) × Leads p (drafted p.state (accepted p.state request)) p'
 
--- How a command of an update may be answered. A listing is a step of the step table in the draft's
--- state, a bind is a step of `UntestedStep`, and a change is planned.
+-- The possible answers to a command of an update. A listing is a step of the step table in the
+-- draft's state, a bind is a step of `UntestedStep`, and a change is planned.
 abbrev pub DraftStep : Phase → Request → Reply → Phase → Type 0
 DraftStep p (bind program base) answer p' = UntestedStep p (bind program base) answer p'
 DraftStep p list answer p' = Step p list answer p'
@@ -67,8 +67,8 @@ abbrev pub AppliesDraft : {D : Type 0} → (D → DiskFacts) → Drafted D → D
 AppliesDraft facts old new s d request answer = (d' : State) × AppliedDraft facts old new s d d' request answer
 
 -- A program was bound with a draft at state d. Each library that the program needs was read at most
--- once; if the answer is an image, each of these libraries was read exactly once. No other library was
--- read, and nothing was written.
+-- once, and exactly once if the answer is an image. No other library was read, and nothing was
+-- written.
 pub record ReadsForBind {D : Type 0} (facts : D → DiskFacts) (old new : Drafted D) (d : State) (program : List ℕ) (answer : Reply) : Type 0 where
   pub unchanged : IsUnchanged (facts old.store.disk) (facts new.store.disk)
   pub most_calls : AreCallsAtMost (bind_sectors d program) (facts old.store.disk) (facts new.store.disk)
@@ -79,8 +79,8 @@ abbrev pub IsBoundBeside : {D : Type 0} → (D → DiskFacts) → Drafted D → 
 IsBoundBeside facts old new d (bind program base) answer = ReadsForBind facts old new d program answer
 IsBoundBeside facts old new d request answer = Unit {0}
 
--- The draft after a command. A refused command, a bind and a listing leave the draft unchanged. After a
--- planned change the draft is marked as changed.
+-- The draft after a command. A refused command, a bind and a listing leave the draft unchanged. A
+-- planned change marks the draft as changed.
 abbrev pub LeavesDraft : {D : Type 0} → Drafted D → Drafted D → Request → Reply → Type 0
 LeavesDraft old new request (Refused refusal) = IsSameDraft old new
 LeavesDraft old new (bind program base) answer = IsSameDraft old new
@@ -89,8 +89,8 @@ LeavesDraft old new request answer = new.touched ≢ Nothing
 
 -- A command of an update was answered with `answer`, on any disk.
 pub record AnsweredDraft {D : Type 0} (facts : D → DiskFacts) (old new : Drafted D) (request : Request) (answer : Reply) : Type 0 where
-  -- The answer is S2 if and only if a write failed before. In that case nothing is done, and the update
-  -- can only be given up.
+  -- The answer is S2 if and only if an earlier write failed. In this case the command does nothing,
+  -- and the update can only be given up.
   pub reopen : (answer ≡ Refused Reopen) ↔ IsTrue old.store.failed
   pub failed : IsTrue old.store.failed → new ≡ old
   -- the answer is S1 only if a call of the disk failed

@@ -10,7 +10,7 @@ use Rattle.requests.specs.declared.refusal.Refusal.TheVariants.{Device, Reopen, 
 use Rattle.registry.specs.Binding.{data_sectors}
 use Rattle.registry.specs.Untested.{ReadsLibraries}
 
--- the libraries that are found, and a needed name that isn't installed, if there is one
+-- the found libraries, and a needed name that isn't installed, if there is one
 pub record Found : Type 0 where
   pub libraries : List Library
   pub missing : Option Need
@@ -19,13 +19,14 @@ pub record Found : Type 0 where
 abbrev pub found_sectors : Found → ℕ
 found_sectors found = sum_by (λ library. data_sectors library.bytes) found.libraries
 
--- a needed name is missing among the installed libraries if and only if it is missing among `libraries`
+-- a needed name is missing among the installed libraries if and only if it is missing among
+-- `libraries`
 abbrev pub IsKnown : State → List Library → Need → Type 0
 IsKnown s libraries need = is_missing (names_of (objects s)) need ≡ is_missing (names_of (map object_of libraries)) need
 
 -- The program and the found libraries form the program's load order, `missing` is the first missing
--- name, and each found file is a library. A name that one of these objects needs is missing if and only
--- if no found library has that name.
+-- name, and each found file is a library. A name that one of these objects needs is missing if and
+-- only if no found library has it.
 pub record IsFoundFor (s : State) (program : List ℕ) (found : Found) : Type 0 where
   pub order : load_order program (objects s) (preload_numbers s) ≡ available program (map object_of found.libraries)
   pub lacks : missing program (objects s) (preload_numbers s) ≡ found.missing

@@ -1,4 +1,4 @@
--- When a registry is at a state (own).
+-- The condition for a registry to be at a state (own).
 use Rattle.std.specs.Prelude.{All}
 use Rattle.sector_disk.specs.Disk.{DiskFacts}
 use Rattle.store.specs.Opened as store

@@ -31,34 +31,34 @@ point registry s = record { registry = registry; state = s }
 abbrev pub disk_at : {D : Type 0} → (D → DiskFacts) → Point D → DiskFacts
 disk_at facts p = facts p.registry.disk
 
--- the command is applied to the registry in the state of `p`; if the command is accepted, it makes
--- exactly the calls that `calls_of` defines
+-- the command is applied to the registry at the state of `p`; if the command is accepted, it makes
+-- exactly the calls that `calls_of` counts
 pub record AppliesAt {D : Type 0} (facts : D → DiskFacts) (p : Point D) (request : Request) (answer : Reply) (p' : Point D) : Type 0 where
   pub at : IsAt facts p.registry p.state
   pub applied : Applied facts p.registry p'.registry p.state p'.state request answer
   pub calls : IfAccepted answer (AreCallsExactly (calls_of p.state request) (disk_at facts p) (disk_at facts p'))
 
--- one command of a run: either it is applied; or a write or a sync failed before, and then nothing is
--- done
+-- one command of a run: it is applied; or an earlier write or sync failed, and it does nothing
 pub record Goes {D : Type 0} (facts : D → DiskFacts) (p : Point D) (request : Request) (answer : Reply) (p' : Point D) : Type 0 where
   pub did : Did facts p.registry p'.registry request answer
   pub applied : AppliesAt facts p request answer p' ⊎ (IsTrue p.registry.failed × (p' ≡ p))
 
--- The registry stays at its state. From p to p', a stop leaves only sectors that a stop could leave at
--- p.
+-- The registry stays at its state. From p to p', a stop leaves only sectors that a stop could leave
+-- at p.
 pub record IdlesAt {D : Type 0} (facts : D → DiskFacts) (p p' : Point D) : Type 0 where
   pub before : IsAt facts p.registry p.state
   pub after : IsAt facts p'.registry p'.state
   pub any_moment : LeavesOnly (disk_at facts p) (disk_at facts p') (Mixture (disk_at facts p))
 
--- no change was asked for: either the registry stays at its state; or a write or a sync failed before,
--- and then no call is made
+-- the request is for no change: the registry stays at its state; or an earlier write or sync
+-- failed, and no call is made
 pub record Idles {D : Type 0} (facts : D → DiskFacts) (p p' : Point D) : Type 0 where
   pub same : p'.state ≡ p.state
   pub stays : IdlesAt facts p p' ⊎ (IsTrue p.registry.failed × IsTrue p'.registry.failed × (p'.registry.disk ≡ p.registry.disk))
 
--- An update is applied to a registry at a state. The step table answered the requests, which were
--- planned in a draft one after the other. The commit was answered with `answer`.
+-- An update is applied to a registry at a state. The step table determined the answers to the
+-- requests, which were planned in a draft one after the other. The commit was answered with
+-- `answer`.
 pub record UpdatesAt {D : Type 0} (facts : D → DiskFacts) (p : Point D) (requests : List Request) (answer : Reply) (p' : Point D) : Type 0 where
   pub at : IsAt facts p.registry p.state
   pub draft : Drafted D
@@ -66,17 +66,16 @@ pub record UpdatesAt {D : Type 0} (facts : D → DiskFacts) (p : Point D) (reque
   pub planned : IsUpdate facts (begun p.registry) draft p.state requests answers
   -- a stop at any moment leaves the state before the update, or the state after all of its requests
   pub any_moment : LeavesOnly (disk_at facts p) (disk_at facts p') (λ m. Stands m p.state ⊎ Stands m (updated p.state requests))
-  -- either the commit is acknowledged, and p' has the updated state; or a write or a sync failed, and p'
+  -- the commit is acknowledged, and p' has the updated state; or a write or a sync failed, and p'
   -- has the state before the update
   pub ends : ((answer ≡ Done) × (p'.state ≡ updated p.state requests) × IsAt facts p'.registry p'.state)
       ⊎ ((answer ≡ Refused Device) × (p'.state ≡ p.state) × IsTrue p'.registry.failed)
 
--- one update of a run: either it is applied; or a write or a sync failed before, and then nothing is
--- done
+-- one update of a run: it is applied; or an earlier write or sync failed, and it does nothing
 abbrev pub Updates : {D : Type 0} → (D → DiskFacts) → Point D → List Request → Reply → Point D → Type 0
 Updates facts p requests answer p' = UpdatesAt facts p requests answer p' ⊎ (IsTrue p.registry.failed × (answer ≡ Refused Reopen) × (p' ≡ p))
 
--- An update is given up. Even if a write of the update's draft failed, the state is unchanged.
+-- An update is given up. The state is unchanged, even if a write of the update's draft failed.
 pub record GivesUp {D : Type 0} (facts : D → DiskFacts) (p p' : Point D) : Type 0 where
   pub at : IsAt facts p.registry p.state
   pub same : p'.state ≡ p.state
@@ -108,13 +107,13 @@ module _ {D : Type 0} (facts : D → DiskFacts) (start : Point D) (exchanges : L
   abbrev pub HasBegun : ℕ → ℕ → Type 0
   HasBegun k moment = (i : ℕ) → i + 1 ≡ k → (disk_at facts (after start points i)).time ≤ moment
 
-  -- every command and update that was acknowledged by this moment is among the first k exchanges; every
-  -- later command or update was acknowledged after this moment, if at all
+  -- every command and update that was acknowledged by this moment is among the first k exchanges;
+  -- the other commands and updates are acknowledged later, or never
   abbrev pub HoldsAcknowledged : ℕ → ℕ → Type 0
   HoldsAcknowledged k moment = (i : ℕ) → k ≤ i → IsAcknowledgedAt exchanges i → moment < (disk_at facts (after start points (i + 1))).time
 
-  -- a stop at this moment leaves the state after the accepted commands and updates among the first k
-  -- exchanges, for a k that satisfies `HasBegun` and `HoldsAcknowledged`
+  -- a stop at this moment leaves the state after the accepted commands and updates among the first
+  -- k exchanges, for a number k that satisfies `HasBegun` and `HoldsAcknowledged`
   abbrev pub LeavesAccepted : ℕ → List Sector → Type 0
   LeavesAccepted moment m = (k : ℕ) × (k ≤ length exchanges) × HasBegun k moment × HoldsAcknowledged k moment
       × (taken : List Transaction) × AreAccepted (take k exchanges) taken × Stands m (state_after start.state taken)
@@ -129,7 +128,7 @@ module _ {D : Type 0} (facts : D → DiskFacts) (start : Point D) (exchanges : L
     pub states : (k : ℕ) → (after start points k).state ≡ state_after start.state (acknowledged (take k exchanges))
     -- at the end the registry is at the last state, unless a write or a sync failed
     pub kept : IsAt facts end.registry end.state ⊎ IsTrue end.registry.failed
-    -- at each moment from start to end, also while calls fail, a stop leaves a state that
+    -- at each moment from start to end, even while calls fail, a stop leaves a state that
     -- `LeavesAccepted` allows
     pub past : KeepsPast (disk_at facts start) (disk_at facts end)
     pub any_moment : (moment : ℕ) (m : List Sector) → (disk_at facts start).time ≤ moment → moment ≤ (disk_at facts end).time

@@ -4,8 +4,8 @@ use Rattle.store.specs.declared.refusal.StoreRefusal.TheVariants as store
 use Rattle.requests.specs.declared.refusal.Refusal.{Refusal}
 use Rattle.requests.specs.declared.refusal.Refusal.TheVariants.{Device, Reopen, Damaged, Full, Fragmented, TooMany, GenerationEnd, OutOfMemory}
 
--- The registry's refusal for a refusal of the store, with the same number. The last line is for refusals
--- that never occur here.
+-- The registry's refusal for a refusal of the store, with the same number. The last line is for
+-- refusals that don't occur here.
 abbrev pub refusal_of : StoreRefusal → Refusal
 refusal_of store.Device = Device
 refusal_of store.Reopen = Reopen

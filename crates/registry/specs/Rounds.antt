@@ -41,8 +41,8 @@ fused_memory = fuse_facts memory_facts
 abbrev pub asked : Round → List Request
 asked round = map request_of round.commands.items
 
--- `fuse` is new, and contains the disk `disk`. Call number `cut` of the round and all later calls fail.
--- If the round's `late` is true, call number `cut` reaches the disk before it fails.
+-- `fuse` is new, and has the disk `disk` under it. Call number `cut` of the round and all later
+-- calls fail. If the round's `late` is true, call number `cut` reaches the disk before it fails.
 pub record IsFused (disk : Memory) (round : Round) (fuse : Fuse Memory) : Type 0 where
   pub inner : inner_of fuse ≡ disk
   pub plan : plan_of fuse ≡ record { call = round.cut; forever = true; late = round.late }
@@ -50,14 +50,14 @@ pub record IsFused (disk : Memory) (round : Round) (fuse : Fuse Memory) : Type 0
   pub time : (fused_memory fuse).time ≡ 0
   pub failures : (fused_memory fuse).failures ≡ 0
 
--- The pick for sector number `at`. The list of picks is repeated as often as needed. If the list is
--- empty, the pick is 0.
+-- The pick for sector number `at`. The list of picks is repeated as often as necessary. If the list
+-- is empty, the pick is 0.
 abbrev pub picked : List ℕ → ℕ → ℕ
 picked picks at = slice_index picks (at % length picks)
 
--- The disk `disk` was stopped with the picks `picks`, which left the disk `stopped`. Each sector holds
--- one of its choices: the one whose number is the sector's pick, modulo the number of choices. All
--- sectors are synced.
+-- The disk `disk` was stopped with the picks `picks`, and `stopped` is the disk after the stop.
+-- Each sector holds one of its choices: the choice number is the sector's pick, modulo the number
+-- of choices. All sectors are synced.
 pub record IsStoppedBy (picks : List ℕ) (disk stopped : Memory) : Type 0 where
   pub stop : IsStopped (memory_facts disk) (memory_facts stopped)
   pub each : (at : ℕ) → at < (memory_facts disk).sectors → sector (memory_facts stopped).now at
@@ -71,8 +71,8 @@ pub record WritesNothing (before after : DiskFacts) : Type 0 where
   pub now : after.now ≡ before.now
   pub calls : AreCalls before after
 
--- The disk `first` was opened, and no byte string of the registry was held. Then the registry answered
--- the requests, which left the disk `last`.
+-- The disk `first` was opened, with no byte string held. Then the registry answered the requests.
+-- `last` is the disk after them.
 pub record WasRun (first last : Fuse Memory) (s : State) (requests : List Request) (replies : List Reply) : Type 0 where
   pub old : Opened (Fuse Memory)
   pub new : Opened (Fuse Memory)
@@ -88,15 +88,16 @@ pub record WasNotRun (first last : Fuse Memory) (refusal : StoreRefusal) : Type 
   pub opened : WritesNothing (fused_memory first) (fused_memory last)
   pub why : ((refusal ≡ Device) × ((fused_memory first).failures < (fused_memory last).failures)) ⊎ (refusal ≡ OutOfMemory)
 
--- A round reports the replies, and changes state s to the state after its accepted commands; or it
--- reports why it wasn't run, and keeps the state.
+-- A round returns the replies, and changes state s to the state after its accepted commands; or it
+-- returns the reason why it wasn't run, and keeps the state.
 abbrev pub RoundTells : Fuse Memory → Fuse Memory → State → List Request → RoundReplies → State → Type 0
 RoundTells first last s requests (Ran replies) s' = WasRun first last s requests replies.items
     × (taken : List Transaction) × AreAccepted (commanded requests replies.items) taken × (s' ≡ state_after s taken)
 RoundTells first last s requests (NotRun refusal) s' = WasNotRun first last refusal × (s' ≡ s)
 
--- A round changes a disk and its state to the next disk and state. The disk is put into a fuse and
--- opened, and the commands are applied. Then the disk in the fuse is stopped by the round's picks.
+-- A round leads from a disk and its state to the next disk and state. The disk is put under a fuse
+-- and opened, and the commands are applied. Then the disk under the fuse is stopped with the
+-- round's picks.
 pub record RoundLeads (before : Standing) (round : Round) (replies : RoundReplies) (after : Standing) : Type 0 where
   pub first : Fuse Memory
   pub last : Fuse Memory

@@ -1,4 +1,4 @@
--- Which state of a registry a list of sectors holds (own).
+-- The state of a registry that a list of sectors holds (own).
 use Rattle.std.specs.Prelude.{◌⊎◌, List, All}
 use Rattle.sector_disk.specs.Disk.{Sector}
 use Rattle.states.specs.State.{State}

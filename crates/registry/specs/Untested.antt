@@ -1,5 +1,5 @@
--- The effect of a command on a registry whose files weren't tested when it was opened. Such a registry
--- has named byte strings, some of which may not be libraries (own).
+-- The effect of a command on a registry whose files weren't tested when it was opened. Such a
+-- registry has named byte strings, which needn't be libraries (own).
 use Rattle.std.specs.Prelude.{◌≡◌, ℕ, List, All, drop, IsFalse, None}
 use Rattle.sector_disk.specs.Disk.{DiskFacts}
 use Rattle.scope.specs.LoadOrder.{load_order}
@@ -18,21 +18,21 @@ use Rattle.requests.specs.declared.reply.Reply.{Reply}
 use Rattle.requests.specs.declared.reply.Reply.TheVariants.{Bound, Refused}
 use Rattle.registry.specs.Applied.{AppliedBy}
 
--- each file that a bind of the program reads is a library with its own name; these are the files after
--- the program in the load order
+-- each file that a bind of the program reads is a library with its own name; these are the files
+-- after the program in the load order
 abbrev pub ReadsLibraries : State → List ℕ → Type 0
 ReadsLibraries s program = All (λ o. IsLibrary (record { name = o.name; bytes = o.file })) (drop 1 (load_order program (objects s) (preload_numbers s)))
 
--- an answer that a bind can return only after it has read all files of the load order: an image, or B3
--- to B5
+-- the answer is one that a bind can return only after it has read all files of the load order: an
+-- image, or B3 to B5
 abbrev pub ComesBehindReading : List ℕ → ℕ → Reply → Type 0
 ComesBehindReading program base (Bound image) = Unit {0}
 ComesBehindReading program base (Refused (Bind refusal)) = program_refusal program base ≡ None
 ComesBehindReading program base answer = ⊥
 
--- The step table answers a change and a listing, and also a bind if each file that it reads is a
--- library. If one of these files isn't a library, the bind returns S5, or an answer that is possible
--- before all files are read.
+-- The step table determines the answers to a change and to a listing, and to a bind if each file
+-- that it reads is a library. If one of these files isn't a library, the bind returns S5, or an
+-- answer that is possible before all files are read.
 abbrev pub UntestedStep : Phase → Request → Reply → Phase → Type 0
 UntestedStep p (bind program base) (Refused Damaged) p' =
     IsFalse p.failed × (program_refusal program base ≡ None) × (ReadsLibraries p.state program → ⊥) × Leads p p.state p'

@@ -11,7 +11,7 @@ use Rattle.registry.specs.Stands.{Stands, StandsOld}
 abbrev pub IsNotOld : List Sector → Type 0
 IsNotOld m = (s : State) → StandsOld m s → ⊥
 
--- Either the sectors m hold state s by the rules of version 2, and the registry is at s. Or they hold s
--- by the rules of version 1, and the registry is at the upgraded state.
+-- The sectors m hold state s by the rules of version 2, and the registry is at s; or they hold s by
+-- the rules of version 1, and the registry is at the upgraded state.
 abbrev pub IsUpgradeOf : {D : Type 0} → (D → DiskFacts) → Opened D → List Sector → State → Type 0
 IsUpgradeOf facts registry m s = (Stands m s × IsAt facts registry s) ⊎ (StandsOld m s × IsAt facts registry (upgraded s))

@@ -1,5 +1,5 @@
--- Values that the code keeps while it runs. Nobody has to believe these definitions. Of the public
--- clauses, only those about binders in flight cite them.
+-- Values that the code keeps while it runs. A reader needn't check these definitions. The only
+-- public clauses that cite them are those about binders in flight.
 pub mod Drafting
 pub mod Binding
 pub mod Named

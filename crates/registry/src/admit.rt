@@ -28,8 +28,8 @@ fn is_library(object: &Admitted<'_>, name: &[u8]) -> bool
     }
 }
 
-/// Tests that `bytes` are a library with the name `name`. If they aren't, returns S5 (Damaged); if
-/// memory is refused, returns S11 (OutOfMemory).
+/// Tests that `bytes` are a library with the name `name`. Returns S5 (Damaged) if they aren't, and
+/// S11 (OutOfMemory) if memory is refused.
 pub(crate) fn see_library(alloc: Global, name: &[u8], bytes: &[u8]) -> Result<(), StoreRefusal>
     ensures ok { OnOk result (IsLibrary (record { name = name.now; bytes = bytes.now })) }
     ensures damaged { IfErr result (λ e. e ≡ StoreRefusal.Damaged

@@ -1,4 +1,4 @@
-// Makes a registry from a store of version 2, after every file was admitted.
+// Makes a registry from a store of version 2, after admitting every file.
 ghost use Rattle.std.specs.Prelude.{◌≡◌, ◌<◌, ◌⊎◌, [], sum_by, All, IsTrue, IsFalse, IfOk, IfErr};
 ghost use Rattle.sector_disk.specs.Disk.{Mixture, LeavesOnly, AreCalls, AreCallsExactly};
 ghost use Rattle.states.specs.State.{State};
@@ -14,8 +14,8 @@ use sector_disk::Disk;
 use std::alloc::Global;
 use store::{Store, StoreRefusal};
 
-/// Reads and admits each file of `store`, and makes the store a registry. If a file isn't a library
-/// with its entry's name, or can't be read, hands the disk back.
+/// Reads and admits each file of `store`, and makes the store a registry. If a file can't be read
+/// or isn't a library with its entry's name, returns a refusal and the disk.
 pub(crate) fn admit_current<D: Disk>(
     alloc: Global,
     store: Store<D>,

@@ -1,4 +1,4 @@
-// Makes a registry from a store of version 1, after every file was admitted.
+// Makes a registry from a store of version 1, after admitting every file.
 ghost use Rattle.std.specs.Prelude.{◌≡◌, ◌<◌, length, slice_index_or, sum_by};
 ghost use Rattle.std.specs.Prelude.{All, IsFalse, IfErr, OnOk};
 ghost use Rattle.sector_disk.specs.Disk.{AreCallsExactly};
@@ -62,8 +62,8 @@ fn admit_old_files<D: Disk>(alloc: Global, store: &mut OldStore<D>) -> Result<()
 }
 
 /// Reads and admits each file of a store of version 1, and then makes the store a registry of
-/// version 2. Writes only the catalogues and the root. If a file isn't a library with its entry's
-/// name or can't be read, or if the store refuses, hands the disk back.
+/// version 2. Writes only the catalogues and the root. If a file can't be read or isn't a library
+/// with its entry's name, or if the store refuses, returns a refusal and the disk.
 pub(crate) fn admit_old<D: Disk>(
     alloc: Global,
     store: OldStore<D>,

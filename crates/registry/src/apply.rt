@@ -39,8 +39,7 @@ impl<D: Disk> Registry<D> {
             (AreCallsExactly (calls_of s (request_of command.now))
             (D.facts self.old.disk) (D.facts self.new.disk)) }
 
-        // The ghost function `holds_are_sound` lets proofs use that each held byte string has one
-        // row.
+        // `holds_are_sound` states for the proof that each held byte string has one row.
         ensures on_any_disk { AreHolds self.old → AreHolds self.new
             → Answered D.facts self.old self.new (request_of command.now) result }
     {
@@ -54,18 +53,18 @@ impl<D: Disk> Registry<D> {
         }
     }
 
-    /// Applies `command`. On an honest disk the answer is a step of the step table, and a refusal
-    /// is the first one that applies. Removing a library and setting the preloads allocate no
+    /// Applies `command`. On an honest disk, the answer is a step of the step table, and a refusal
+    /// is that of the first test that refuses. A removal and the setting of preloads allocate no
     /// memory. A listing makes no call of the disk. A bind reads the files of the program's load
     /// order.
     pub fn apply(&mut self, command: &Command<'_>) -> Reply
         // The answer is a step of the step table. A stop at any moment leaves the state before the
-        // command or the state after it, also if a call failed.
+        // command or the state after it, even if a call failed.
         ensures applied { (s : State) → IsAt D.facts self.old s
             → Applies D.facts self.old self.new s (request_of command.now) result }
 
-        // The files need not be libraries here. A change reads no file, and a bind reads only the
-        // files that it needs.
+        // This clause holds even if the files aren't libraries. A change reads no file, and a bind
+        // reads only the files that it needs.
         ensures untested { (s : State) → stored.IsAt D.facts self.old s
             → AppliesUntested D.facts self.old self.new s (request_of command.now) result }
         ensures all_calls { (s : State) → stored.IsAt D.facts self.old s → IfAccepted result
@@ -83,10 +82,10 @@ impl<D: Disk> Registry<D> {
     /// Applies `commands` one after the other, and returns one reply for each command. If memory
     /// for the replies is refused, applies no command.
     pub fn run(&mut self, commands: &[Command<'_>]) -> Result<Vec<Reply>, AllocError>
-        // Each command is applied to the registry that the command before it left. A stop at any
+        // Each command is applied to the registry as the previous command left it. A stop at any
         // moment leaves the state after a prefix of the accepted commands. This prefix contains
-        // every command acknowledged by then. After the last command, the registry is at the state
-        // after all accepted commands.
+        // every command that was acknowledged before that moment. After the last command, the
+        // registry is at the state after all accepted commands.
         ensures ok { IfOk result (λ replies. (s : State) → IsAt D.facts self.old s → RunsOver
             D.facts self.old self.new s (map request_of commands.now) replies.items) }
         ensures err { OnErr result (self.new ≡ self.old) }

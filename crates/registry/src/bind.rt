@@ -37,9 +37,9 @@ impl<D: Disk> Registry<D> {
     ghost use Rattle.registry.specs.Untested.{AppliedUntested, UntestedStep};
     ghost use Rattle.store.specs.IsRead.{IsRead};
 
-    /// Returns the image of an admitted program at `base`, or a refusal. Requires that no test
-    /// refuses the program by itself. If a read is refused, the refusal is S1 (Device), S5
-    /// (Damaged) or S11 (OutOfMemory), and no further file is read. Otherwise the refusal is B3
+    /// Returns the image of an admitted program at `base`, or a refusal. The tests of the program
+    /// without its libraries must have accepted it. If a read is refused, returns S1 (Device), S5
+    /// (Damaged) or S11 (OutOfMemory), and reads no further file. Otherwise a refusal is B3
     /// (Missing), B4 (NoRoom), B5 (Undefined) or, if memory is refused, S11.
     fn bind_admitted(&mut self, program: &Admitted<'_>, base: u64) -> Result<Image, Refusal>
         requires { program_refusal program.now base ≡ None }
@@ -64,7 +64,7 @@ impl<D: Disk> Registry<D> {
     }
 
     /// Returns the image of the program `file` at `base`, or the first refusal. Tests the program
-    /// by itself before any call of the disk.
+    /// without its libraries before any call of the disk.
     fn image(&mut self, file: &[u8], base: u64) -> Result<Image, Refusal>
         ensures step { (s : State) → IsAt D.facts self.old s
             → UntestedStep (phase_of D.facts self.old s) (bind file.now base)
@@ -88,15 +88,15 @@ impl<D: Disk> Registry<D> {
         self.bind_admitted(&program, base)
     }
 
-    /// Returns the reply to `Bind`. Reads the files of the program's load order, each once and one
-    /// after the other, and no other file. Each file is admitted before the next one is read.
+    /// Returns the reply to `Bind`. Reads only the files of the program's load order, one after the
+    /// other, each of them once. Admits each file before it reads the next one.
     pub(crate) fn bind(&mut self, program: &[u8], base: u64) -> Reply
         // The answer is a step of `UntestedStep`, and the state is unchanged at every moment.
         ensures applied { (s : State) → IsAt D.facts self.old s
             → AppliedUntested D.facts self.old self.new s s (bind program.now base) result }
 
-        // A bind that returns an image makes one call for each sector of the libraries in the load
-        // order.
+        // If the bind returns an image, it has made one call for each sector of the libraries in
+        // the load order.
         ensures all_calls { (s : State) → IsAt D.facts self.old s → IfBound result
             (AreCallsExactly (bind_sectors s program.now)
             (D.facts self.old.disk) (D.facts self.new.disk)) }
@@ -105,7 +105,7 @@ impl<D: Disk> Registry<D> {
         ensures table { self.new.held ≡ self.old.held }
         ensures held { KeepsHeld D.facts self.old self.new }
 
-        // On any disk: if a test refuses the program by itself, no call is made.
+        // On any disk: if a test of the program without its libraries refuses it, no call is made.
         ensures alone { program_refusal program.now base ≢ None → self.new ≡ self.old }
         ensures failed { IsTrue self.old.failed → (result ≡ Reply.Refused Refusal.Reopen)
             × (self.new ≡ self.old) }

@@ -1,4 +1,4 @@
-// Binders: a program is bound step by step, while the registry changes.
+// Binders. A binder binds a program step by step, while the registry may change.
 ghost use Rattle.std.specs.Prelude.{◌≡◌, [], None, List, IfOk, IfErr, OnOk};
 ghost use Rattle.image.specs.Refusal.{IsProgramAnswer};
 ghost use Rattle.image.specs.Refusal.{program_refusal};
@@ -28,12 +28,12 @@ use store::{Store, StoreRefusal};
 pub enum Step {
     /// The bind isn't finished yet.
     Going,
-    /// The answer of the bind: an image, B1 to B5, or S5 (Damaged). The binder is done.
+    /// The answer of the bind: an image, B1 to B5, or S5 (Damaged). This was the last step.
     Final(Reply),
 }
 
-/// A program that is bound in steps, with the libraries that the registry had when the binder was
-/// begun. A binder may be used only with its own registry, until it is given to `Registry::end`.
+/// A program that is bound in steps, with the libraries that the registry had when the binder
+/// began. You may use a binder only with its own registry, until you pass it to `Registry::end`.
 #[derive(Drop)]
 pub struct Binder {
     program: Vec<u8>,
@@ -63,7 +63,7 @@ impl Model for Binder {
     }) };
 }
 
-/// Makes the first step: tests the program by itself, and starts the walk.
+/// Makes the first step: tests the program without its libraries, and starts the walk.
 fn look<D: Disk>(
     alloc: Global,
     store: &Store<D>,
@@ -94,8 +94,8 @@ fn answer(alloc: Global, program: &[u8], base: u64, walk: &Walk) -> Result<Image
     bind_walked(alloc, &program, base, walk)
 }
 
-/// Returns the result of a step in which binding was refused. If memory was refused, the step can
-/// be made again. Any other refusal is the answer.
+/// Returns the result of a step in which the bind was refused. If memory was refused, the caller
+/// can repeat the step. Any other refusal is the answer.
 fn refused(refusal: BindRefusal) -> Result<Step, Refusal>
     ensures value { result ≡ refused_step refusal }
     ensures last { IfOk result IsLastStep }
@@ -106,9 +106,9 @@ fn refused(refusal: BindRefusal) -> Result<Step, Refusal>
     }
 }
 
-/// Returns the result of a step in which a read was refused. A damaged file is the answer.
-/// After a failed call and after refused memory the step can be made again. After S2 (Reopen)
-/// the disk has to be opened again.
+/// Returns the result of a step in which a read was refused. If a file is damaged, this is the
+/// answer. After a failed call or refused memory, the caller can repeat the step. After S2
+/// (Reopen), the disk has to be opened again.
 fn unread(refusal: StoreRefusal) -> Result<Step, Refusal>
     ensures value { result ≡ unread_step refusal }
     ensures last { IfOk result IsLastStep }
@@ -129,8 +129,8 @@ impl Binder {
     ghost use Rattle.registry.specs.inside.Binding.{Stays};
     ghost use Rattle.store.specs.IsRead.{IsRead};
 
-    // Does nothing. Its clauses let proofs use that no preload occurs twice, and that each one is a
-    // library.
+    // Does nothing. Its clauses state for proofs that no preload occurs twice, and that each
+    // preload is a library.
     fn preloads_are_apart(&self)
         ensures inside { All (λ p. p < length self.now.snapshot.handles)
             self.now.snapshot.preloads }
@@ -163,7 +163,7 @@ impl Binder {
         }
     }
 
-    /// Makes a step: examines the program, reads the next file, or binds the program.
+    /// Makes a step: examines the program, or reads the next file, or binds the program.
     fn step<D: Disk>(&mut self, alloc: Global, store: &mut Store<D>) -> Result<Step, Refusal>
         ensures step { (flight : Flight) → Flies D.facts store.old self.old flight
             → IsStep D.facts store.old store.new flight self.new result }
@@ -191,7 +191,7 @@ impl Binder {
 impl<D: Disk> Registry<D> {
     ghost use Rattle.registry.specs.Flying.{Advances, Begins, Ends};
 
-    /// Begins to bind the program `program` at `base`, with the current libraries and preloads.
+    /// Begins to bind the program `program` at `base`, with the present libraries and preloads.
     /// Later changes of the registry don't affect the bind. Copies the program, holds each library,
     /// and makes no call of the disk. Refuses with S2 (Reopen) or S11 (OutOfMemory).
     pub fn begin(&mut self, program: &[u8], base: u64) -> Result<Binder, Refusal>
@@ -216,14 +216,14 @@ impl<D: Disk> Registry<D> {
         }
     }
 
-    /// Makes the next step of `binder`. The first step tests the program by itself, each following
-    /// step reads and admits one library, in load order, and the last step binds. After S1 (Device)
-    /// and S11 (OutOfMemory) the step can be made again. After S2 (Reopen) the disk has to be
-    /// opened again, and the binder can only be ended.
+    /// Makes the next step of `binder`. The first step tests the program without its libraries.
+    /// Each later step reads and admits one library, in load order, and the last step binds the
+    /// program. After S1 (Device) and S11 (OutOfMemory), you can repeat the step. After S2
+    /// (Reopen), the disk has to be opened again, and you can only end the binder.
     pub fn advance(&mut self, binder: &mut Binder) -> Result<Step, Refusal>
         ensures { Advances D.facts self.old self.new binder.old binder.new result }
     {
-        // This call lets proofs use that no library is read twice.
+        // This call states for the proof that no library is read twice.
         binder.preloads_are_apart();
         if self.store.has_failed() {
             return Err(Refusal::Reopen);
@@ -231,8 +231,8 @@ impl<D: Disk> Registry<D> {
         binder.step(self.alloc, &mut self.store)
     }
 
-    /// Ends `binder`, finished or not, and releases the libraries that it held. Allocates no memory
-    /// and makes no call of the disk. May also be called after S2 (Reopen).
+    /// Ends `binder`, finished or not, and releases the libraries that it holds. Allocates no
+    /// memory and makes no call of the disk. You may also call it after S2 (Reopen).
     pub fn end(&mut self, binder: Binder)
         ensures { Ends D.facts self.old self.new binder }
     {

@@ -27,8 +27,8 @@ pub(crate) fn libraries_of(
     Ok(libraries)
 }
 
-/// Binds a program with the files of its load order, at a base that no test refuses. The tests
-/// begin with B4.
+/// Binds a program with the files of its load order, at a base that the tests accept. Begins with
+/// test B4.
 fn bind_files(
     alloc: Global,
     program: &Admitted<'_>,
@@ -61,7 +61,8 @@ fn bound_files(
     bound_objects(alloc, &order, base)
 }
 
-/// Binds a program as `bind_files` does, and frees each file when its segments are filled.
+/// Binds a program in the same way as `bind_files`, and frees each file as soon as its segments are
+/// filled.
 fn bind_owned(
     alloc: Global,
     program: &Admitted<'_>,
@@ -81,8 +82,8 @@ fn bind_owned(
     Ok(image)
 }
 
-/// Returns B3 (Missing) for a needed name that no file has, with the object that needs it. Both
-/// names are copied.
+/// Returns B3 (Missing) for a needed name that no file has, with copies of the name and of the name
+/// of the object that needs it.
 fn missing(alloc: Global, need: &NeededName) -> Result<BindRefusal, AllocError>
     ensures { IfOk result (λ refusal. refusal ≡ missing_by need.now) }
 {
@@ -94,8 +95,8 @@ fn missing(alloc: Global, need: &NeededName) -> Result<BindRefusal, AllocError>
     Ok(BindRefusal::Missing { needer, name })
 }
 
-/// Binds a program with the findings of a walk, at a base that no test refuses. If a name is
-/// missing, refuses with B3. Otherwise the tests begin with B4.
+/// Binds a program with the findings of a walk, at a base that the tests accept. If a name is
+/// missing, refuses with B3 (Missing). Otherwise makes the tests from B4 on.
 pub(crate) fn bind_walked(
     alloc: Global,
     program: &Admitted<'_>,
@@ -111,7 +112,8 @@ pub(crate) fn bind_walked(
     }
 }
 
-/// Binds a program as `bind_walked` does, and frees each file as soon as it is no longer needed.
+/// Binds a program in the same way as `bind_walked`, and frees each file as soon as it is no longer
+/// needed.
 pub(crate) fn bind_found(
     alloc: Global,
     program: &Admitted<'_>,

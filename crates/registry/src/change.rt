@@ -1,5 +1,5 @@
-// Carries out the changes that allocate no memory and need no file. Each change makes the tests of
-// its command, and then calls the store.
+// Makes the changes that allocate no memory and need no file. Each of them makes the tests of its
+// command, and then calls the store.
 use crate::refusal::in_words;
 use crate::registry::Registry;
 use crate::tests::{test_preloads, test_remove};

@@ -1,4 +1,4 @@
-// Makes the draft of an update a list of libraries, for tests, listings and walks.
+// Implements `Listed` for the draft of an update, so that tests, listings and walks can use it.
 ghost use Rattle.std.specs.Prelude.{◌≡◌, length, refl};
 ghost use Rattle.states.specs.State.{State};
 ghost use Rattle.store.specs.Draft.{IsDraftedAt};

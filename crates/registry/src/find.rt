@@ -42,7 +42,7 @@ impl FoundLibraries {
         FoundLibraries { files, missing }
     }
 
-    /// Returns the libraries. Making each library costs as much as a call of `Object::of_accepted`.
+    /// Returns the libraries. For each library, takes as much time as `Object::of_accepted`.
     pub fn libraries(&self, alloc: Global) -> Result<Vec<Library<'_>>, AllocError>
         ensures { IfOk result (λ libraries.
             libraries.items ≡ map object_of self.now.libraries) }
@@ -50,7 +50,7 @@ impl FoundLibraries {
         libraries_of(alloc, &self.files)
     }
 
-    /// Returns whether at least one needed name isn't installed.
+    /// Returns whether a needed name isn't installed.
     pub fn lacks_some(&self) -> bool
         ensures { result ≡ is_some self.now.missing }
     {
@@ -68,9 +68,9 @@ impl<D: Disk> Registry<D> {
     ghost use Rattle.sector_disk.specs.Disk.{AreCallsExactly};
     ghost use Rattle.registry.specs.Untested.{ReadsLibraries};
 
-    /// Finds the libraries of an admitted program. Reads the files of the program's load order as
-    /// `bind` does. If a name is missing, continues with the other names. Refuses with S1 (Device),
-    /// S2 (Reopen), S5 (Damaged) or S11 (OutOfMemory).
+    /// Finds the libraries of an admitted program. Reads the files of the program's load order in
+    /// the same way as `bind`. If a name is missing, continues with the other names. Refuses with
+    /// S1 (Device), S2 (Reopen), S5 (Damaged) or S11 (OutOfMemory).
     pub fn find_libraries(&mut self, program: &Admitted<'_>) -> Result<FoundLibraries, Refusal>
         ensures read { IsRead D.facts self.old self.new }
         ensures ok { (s : State) → IsAt D.facts self.old s
@@ -78,12 +78,12 @@ impl<D: Disk> Registry<D> {
         ensures damaged { (s : State) → IsAt D.facts self.old s → IfErr result (λ e.
             e ≡ Refusal.Damaged → ReadsLibraries s program.now → ⊥) }
 
-        // Finding the libraries makes exactly the disk calls of a bind.
+        // The search makes exactly the calls of the disk that a bind makes.
         ensures all_calls { (s : State) → IsAt D.facts self.old s → OnOk result
             (AreCallsExactly (bind_sectors s program.now)
             (D.facts self.old.disk) (D.facts self.new.disk)) }
 
-        // On any disk, each library that is found was read once, and no other library was read.
+        // On any disk, each found library was read once, and no other library was read.
         ensures refusals { IfErr result (IsFindRefusal D.facts self.old self.new) }
         ensures calls { IfOk result (λ found. AreCallsExactly (found_sectors found)
             (D.facts self.old.disk) (D.facts self.new.disk)) }

@@ -2,9 +2,9 @@
 //!
 //! `Registry::format` makes a disk a registry, and `Registry::open` opens it again. A stop at any
 //! moment leaves sectors that hold the state before a change or the state after it.
-//! `Registry::upgrade` changes a disk of version 1 to version 2. Between calls no byte of a
-//! library's file is kept in memory, except the files that a binder has read. specs/Stands.antt
-//! defines which state sectors hold.
+//! `Registry::upgrade` changes a disk of version 1 to version 2. Between calls, a registry has no
+//! bytes of libraries' files in memory, except the files that a binder has read. specs/Stands.antt
+//! defines which state a list of sectors holds.
 #![tactic(auto)]
 
 mod admit;

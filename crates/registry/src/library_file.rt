@@ -11,8 +11,8 @@ use std::alloc::Global;
 use std::marker::Model;
 use store::StoreRefusal;
 
-/// The file of a library that was read from a disk. No test refuses it, and its name is its SONAME.
-/// It was tested once. In contracts, this value is the library.
+/// The file of a library that was read from a disk. It was tested once: all tests accept it, and
+/// its name is its SONAME. In contracts, the value is the library.
 #[derive(Drop)]
 pub(crate) struct LibraryFile {
     name: Name,
@@ -31,8 +31,8 @@ impl Model for LibraryFile {
 }
 
 impl LibraryFile {
-    /// Makes a library file from `name` and `bytes`. If they aren't a library, returns S5
-    /// (Damaged); if memory is refused, returns S11 (OutOfMemory).
+    /// Makes a library file from `name` and `bytes`. Returns S5 (Damaged) if they aren't a library,
+    /// and S11 (OutOfMemory) if memory is refused.
     pub(crate) fn new(
         alloc: Global,
         name: &[u8],
@@ -58,15 +58,14 @@ impl LibraryFile {
         self.name.as_bytes()
     }
 
-    /// Returns the file as an admitted object. This costs as much as a call of
-    /// `Object::of_accepted`.
+    /// Returns the file as an admitted object. Takes as much time as `Object::of_accepted`.
     pub(crate) fn admitted(&self) -> Admitted<'_>
         ensures { result ≡ self.now.bytes }
     {
         Admitted::of_accepted(&self.bytes)
     }
 
-    /// Returns the file as a library. This costs as much as a call of `Object::of_accepted`.
+    /// Returns the file as a library. Takes as much time as `Object::of_accepted`.
     pub(crate) fn library(&self) -> Library<'_>
         ensures { result ≡ object_of self.now }
     {

@@ -1,4 +1,4 @@
-// Reports the libraries and preloads of a list. No call of the disk is made.
+// Reports the libraries and preloads of a list, without a call of the disk.
 ghost use Rattle.std.specs.Prelude.{◌≡◌, IfOk, map};
 ghost use Rattle.states.specs.State.{State};
 ghost use Rattle.requests.specs.Table.{entry_of, listed};
@@ -60,7 +60,7 @@ impl<D: Disk> Registry<D> {
         ensures applied { (s : State) → IsAt D.facts self.now s
             → AppliesUntested D.facts self.now self.now s list result }
 
-        // On any disk.
+        // This clause holds on any disk, honest or not.
         ensures reopen { (result ≡ Reply.Refused Refusal.Reopen) ↔ IsTrue self.now.failed }
         ensures answers { IsListAnswer result }
         ensures device { result ≡ Reply.Refused Refusal.Device → ⊥ }

@@ -24,10 +24,10 @@ pub(crate) trait Listed {
     /// The positions of the preloads.
     ghost chosen: { Self → List ℕ };
 
-    /// Whether a write or a sync failed.
+    /// Whether a write or a sync has failed.
     ghost failed: { Self → Bool };
 
-    /// Returns whether a write or a sync failed.
+    /// Returns whether a write or a sync has failed.
     fn has_failed(&self) -> bool
         ensures { result ≡ failed self.now };
 
@@ -51,7 +51,7 @@ pub(crate) trait Listed {
         ensures state { (s : State) → is_at self.now s
             → result ≡ length (slice_index_or s.libraries position no_library).bytes };
 
-    /// Returns the position of the library with the name `name`, or `None`.
+    /// Returns the position of the library with the name `name`, or `None` if there is none.
     fn position(&self, name: &[u8]) -> Option<usize>
         ensures some { IfSome result (λ i. (i < length (entries self.now))
             × ((d : PlacedEntry)
@@ -61,7 +61,7 @@ pub(crate) trait Listed {
             ↔ ((i < length s.libraries)
             × ((slice_index_or s.libraries i no_library).name ≡ name.now)) };
 
-    /// Returns the positions of the preloads, in the order of the preloads.
+    /// Returns the positions of the preloads, in the order in which they were chosen.
     fn preloads(&self) -> &[u16]
         ensures value { result.now ≡ chosen self.now }
         ensures few { length result.now ≤ most_preloads }

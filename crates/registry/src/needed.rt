@@ -18,8 +18,8 @@ use std::alloc::Global;
 use store::{Store, StoreRefusal};
 
 /// Reads the installed files that a program needs, in load order: first the preloads, and then,
-/// level by level, the files that the program and the preloads need. Each file is read once, as a
-/// whole, and is admitted before the next file is read. No other file is read.
+/// level by level, the files that the program and the preloads need. Reads each of these files
+/// once, and no other file. Admits each file before it reads the next one.
 pub(crate) fn read_needed<D: Disk>(
     alloc: Global,
     store: &mut Store<D>,
@@ -27,7 +27,7 @@ pub(crate) fn read_needed<D: Disk>(
 ) -> Result<Walk, StoreRefusal>
     ensures read { IsRead D.facts store.old store.new }
 
-    // The program and the files that were read are the load order, and the walk has the first
+    // The program and the files that were read form the load order, and the walk has the first
     // needed name that no file has.
     ensures ok { (s : State) → IsAt D.facts store.old s → IfOk result (λ walk.
         load_order program.now (objects s) (preload_numbers s)

@@ -13,7 +13,7 @@ use elf_dynamic::Object;
 use scope::{NeededName, Places};
 use std::alloc::{AllocError, Global};
 
-/// The needs that a walk has found: the files that are needed, and a needed name that no file has.
+/// The needs that a walk has found: the needed files, and the first needed name that no file has.
 #[derive(Drop)]
 pub(crate) struct Needs {
     /// The queue of places: the program is at place 0, and each file at
@@ -23,7 +23,8 @@ pub(crate) struct Needs {
     pub(crate) missing: Option<NeededName>,
 }
 
-/// Notes a missing name and the object that needs it, unless a name was noted before.
+/// Stores a missing name and the name of the object that needs it, unless a missing name is stored
+/// already.
 fn note(
     alloc: Global,
     missing: &mut Option<NeededName>,
@@ -41,7 +42,7 @@ fn note(
 }
 
 impl Needs {
-    /// Adds the place of the file with the name `name`. If no file has the name, notes it as
+    /// Adds the place of the file with the name `name`. If no file has the name, stores it as
     /// missing.
     fn add_named<N: Named>(
         &mut self,
@@ -63,8 +64,8 @@ impl Needs {
         }
     }
 
-    /// Adds the places of the files that an object needs, and notes the first name that no file
-    /// has. Stops when memory is refused.
+    /// Adds the places of the files that an object needs, and stores the first name that no file
+    /// has. Stops as soon as memory is refused.
     fn add_each<N: Named>(
         &mut self,
         alloc: Global,
@@ -85,7 +86,7 @@ impl Needs {
     }
 
     /// Does the same as `add_each`, but changes nothing if memory is refused. Makes one pass over
-    /// the object's dynamic section, with one search among the names for each needed name.
+    /// the object's dynamic section, and searches once for each needed name.
     pub(crate) fn add_needed<N: Named>(
         &mut self,
         alloc: Global,

@@ -15,18 +15,18 @@ impl<D: Disk> Registry<D> {
     ghost use Rattle.registry.specs.Opening.{opening_calls};
     ghost use Rattle.registry.specs.Stands.{Stands};
 
-    /// Opens the registry on `disk`, also after a stop. Writes nothing. Syncs, and reads the two
-    /// root sectors, each catalogue, one sector for each entry, and each file once. All files are
-    /// read into one buffer, and each is admitted before the next one is read. Refuses with S6
+    /// Opens the registry on `disk`, even after a stop. Writes nothing. Syncs, and reads the two
+    /// root sectors, each catalogue, one sector for each entry, and each file once. Reads all files
+    /// into one buffer, and admits each file before it reads the next one. Refuses with S6
     /// (BadGeometry), S3 (NotFormatted), S12 (OldFormat), S5 (Damaged), S1 (Device) or S11
-    /// (OutOfMemory), and hands the disk back. S12 means that the disk has version 1, which
-    /// `upgrade` opens. S5 also means that a file isn't a library with its entry's name.
+    /// (OutOfMemory), and then also returns the disk. S12 means that the disk is of version 1,
+    /// which `upgrade` opens. S5 also means that a file isn't a library with its entry's name.
     pub fn open(alloc: Global, disk: D) -> Result<Registry<D>, (StoreRefusal, D)>
-        // On an honest disk.
+        // This clause is for an honest disk.
         ensures opening { Opens Stands D.facts (IsAt D.facts) disk result }
         ensures on_any_disk { OpensOnAnyDisk D.facts disk result }
 
-        // The calls are one sync, and one read of each sector that the comment above lists.
+        // The call makes one sync, and one read of each sector in the list above.
         ensures all_calls { IfOk result (λ registry. AreCallsExactly (opening_calls registry)
             (D.facts disk) (D.facts registry.disk)) }
     {
@@ -34,10 +34,10 @@ impl<D: Disk> Registry<D> {
         admit_current(alloc, store)
     }
 
-    /// Opens a registry as `open` does, but reads no file. If a library is damaged or can't be
-    /// read, only a bind that needs it fails, and everything else still works.
+    /// Opens a registry in the same way as `open`, but reads no file. If a library is damaged or
+    /// can't be read, a bind that needs it fails, and all other calls succeed.
     pub fn open_untested(alloc: Global, disk: D) -> Result<Registry<D>, (StoreRefusal, D)>
-        // The registry has named byte strings, which need not be libraries.
+        // The registry has named byte strings, which needn't be libraries.
         ensures opening { OpensByEntries D.facts disk result }
 
         // If the files are libraries, the registry is at the state that the disk holds, as after

@@ -19,8 +19,8 @@ impl<D: Disk> Registry<D> {
     ghost use Rattle.registry.specs.Untested.{AppliesUntested};
 
     /// Installs the library `bytes` after the other libraries. Writes its file to unused sectors.
-    /// The calls of the disk are two syncs, and a write for each sector of the file, the entry,
-    /// each catalogue of the new list, and the root.
+    /// Makes two syncs, and a write for each sector of the file, for the entry, for each catalogue
+    /// of the new list, and for the root.
     pub(crate) fn install(&mut self, bytes: &[u8]) -> Result<(), Refusal>
         ensures applied { (s : State) → IsAt D.facts self.old s
             → AppliesUntested D.facts self.old self.new s (install bytes.now) (answer_of result) }
@@ -42,9 +42,9 @@ impl<D: Disk> Registry<D> {
         in_words(self.store.put_new(name, bytes))
     }
 
-    /// Replaces the file of a library, which keeps its place, by `bytes`. The sectors of the old
-    /// file become unused only when the change is done. Makes the calls of the disk that `install`
-    /// makes, with the catalogues for an unchanged number of libraries.
+    /// Replaces the file of a library by `bytes`. The library keeps its position. The sectors of
+    /// the old file don't become unused until the change is done. Makes the same calls of the disk
+    /// as `install`, with catalogues for the same number of libraries as before.
     pub(crate) fn replace(&mut self, bytes: &[u8]) -> Result<(), Refusal>
         ensures applied { (s : State) → IsAt D.facts self.old s
             → AppliesUntested D.facts self.old self.new s (replace bytes.now) (answer_of result) }

@@ -1,4 +1,4 @@
-// Converts answers of the store to answers of a registry.
+// Converts answers of the store into answers of a registry.
 ghost use Rattle.std.specs.Prelude.{◌≡◌, IfErr};
 ghost use Rattle.store.specs.Step.{IsRefusalOfPutNew};
 ghost use Rattle.registry.specs.Refusals.{refusal_of};
@@ -28,7 +28,7 @@ fn refusal_of(refusal: StoreRefusal) -> Refusal
     }
 }
 
-/// Returns the registry's answer to a change, computed from the store's answer `answer`.
+/// Returns the registry's answer to a change for the store's answer `answer`.
 pub(crate) fn in_words(answer: Result<(), StoreRefusal>) -> Result<(), Refusal>
     requires { IfErr answer IsRefusalOfPutNew }
     ensures { result ≡ in_words answer }

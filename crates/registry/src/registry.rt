@@ -6,8 +6,8 @@ use std::alloc::Global;
 use std::marker::Model;
 use store::Store;
 
-/// A registry on a disk. Names, lengths and the places of files are in memory, but no byte of a
-/// file. In contracts, this value is the store that keeps the registry.
+/// A registry on a disk. Names, lengths and the places of files are in memory, but no bytes of
+/// files. In contracts, the value is the store of the registry.
 pub struct Registry<D: Disk> {
     pub(crate) alloc: Global,
     pub(crate) store: Store<D>,
@@ -32,7 +32,7 @@ impl<D: Disk> Registry<D> {
         self.store.has_failed()
     }
 
-    /// Does nothing. Its clause lets proofs use that, on any disk and after any call, each held
+    /// Does nothing. Its clause states for proofs that on any disk, and after any call, each held
     /// byte string has one row.
     pub fn holds_are_sound(&self)
         ensures { AreHolds self.now }

@@ -5,19 +5,19 @@ use sector_disk::{Fuse, Memory};
 use std::alloc::{AllocError, Global};
 use store::StoreRefusal;
 
-/// A round: the disk is opened, takes commands, and is stopped. Call number `cut` of the round
-/// fails, and so do all later calls. If `late` is true, call number `cut` reaches the disk before
+/// A round: the disk is opened, commands are applied, and the disk is stopped. Call number `cut` of
+/// the round and all later calls fail. If `late` is true, call number `cut` reaches the disk before
 /// it fails.
 #[derive(Drop)]
 pub struct Round<'a> {
     /// The commands of the round, in the order in which they are applied.
     pub commands: Vec<Command<'a>>,
-    /// The number of the call that fails, counted from 1. With 0 no call fails.
+    /// The number of the call that fails, counted from 1, or 0 if no call fails.
     pub cut: u64,
     /// Whether the failing call reaches the disk.
     pub late: bool,
-    /// The numbers that pick each sector's contents at the stop. The list is repeated as often as
-    /// needed.
+    /// The numbers that pick each sector's content at the stop. The list is repeated as often as
+    /// necessary.
     pub picks: Vec<usize>,
 }
 
@@ -36,7 +36,7 @@ ghost use Rattle.states.specs.State.{State};
 ghost use Rattle.registry.specs.Rounds.{AlwaysStands, IsFused, IsStoppedBy, RoundLeads};
 ghost use Rattle.registry.specs.Rounds.{picked, standing};
 
-// Returns the pick for sector number `at`. `picks` is repeated as often as needed. If `picks` is
+// Returns the pick for sector number `at`. Repeats `picks` as often as necessary. If `picks` is
 // empty, returns 0.
 fn pick(picks: &[usize], at: u32) -> usize
     ensures { result ≡ picked picks.now at }
@@ -47,7 +47,7 @@ fn pick(picks: &[usize], at: u32) -> usize
     picks[at as usize % picks.len()]
 }
 
-// Puts the disk of a round into a new fuse.
+// Makes a new fuse for a round, with the disk `disk` under it.
 fn behind_fuse(disk: Memory, round: &Round<'_>) -> Fuse<Memory>
     ensures { IsFused disk round.now result }
 {
@@ -87,9 +87,9 @@ pub fn run_rounds(
     disk: Memory,
     rounds: Vec<Round<'_>>,
 ) -> Result<(Vec<RoundReplies>, Memory), (AllocError, Memory)>
-    // If the disk holds a state, each round starts with the disk and the state that the round
-    // before it left. The returned disk is the one that the last round left, and holds the state
-    // after this round.
+    // If the disk holds a state, each round starts with the disk and the state that the previous
+    // round left. The returned disk is the one that the last round left, and holds the state after
+    // this round.
     ensures ok { (s : State) → AlwaysStands disk s → IfOk result (λ done. (s' : State)
         × Run RoundLeads (standing disk s) rounds.entry.items done.0.items (standing done.1 s')
         × AlwaysStands done.1 s') }

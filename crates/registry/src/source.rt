@@ -19,9 +19,9 @@ pub(crate) enum Source<'a> {
     Held(&'a Snapshot),
 }
 
-/// Files that are found by their names. Some of these files are preloads.
+/// Files that are found by their names, with preloads among them.
 pub(crate) trait Named {
-    /// Whether the files have these entries.
+    /// The files have these entries.
     ghost has: { Self → List PlacedEntry → Type 0 };
 
     /// The number of files.
@@ -41,8 +41,8 @@ pub(crate) trait Named {
         ensures inside { All (λ p. p < offered self.now) result.now }
         ensures once { IsDistinct nat_eq result.now };
 
-    /// Returns the position of the file with the name `name`, by a binary search in the order of
-    /// the names.
+    /// Returns the position of the file with the name `name`, if there is one. Makes a binary
+    /// search in the order of the names.
     fn position(&self, name: &[u8]) -> Option<usize>
         ensures within { IfSome result (λ i. i < offered self.now) }
         ensures few { offered self.now ≤ 2048 }
@@ -107,7 +107,7 @@ pub(crate) fn preload_numbers<N: Named>(alloc: Global, files: &N) -> Result<Vec<
         .collect(alloc)
 }
 
-/// Returns the place in a queue of the file with the name `name`. The first file is at place 1.
+/// Returns the place, in a queue, of the file with the name `name`. The first file is at place 1.
 pub(crate) fn place_of<N: Named>(files: &N, name: &[u8]) -> Option<usize>
     ensures place { (entries : List PlacedEntry) → N.has files.now entries
         → HaveOwnNames entries → result ≡ place_of (entry_names entries) name.now }

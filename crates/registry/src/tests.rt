@@ -35,7 +35,7 @@ fn is_preload<L: Listed>(list: &L, position: usize) -> bool
 }
 
 /// Makes all tests for removing the library `name`, except the test of the generation. Returns the
-/// first refusal that applies.
+/// refusal of the first test that refuses.
 pub(crate) fn test_remove<L: Listed>(list: &L, name: &[u8]) -> Result<(), Refusal>
     ensures ok { (s : State) → L.is_at list.now s → (t : Table) → IsTableOf t s
         → OnOk result (first_refusal t (remove name.now)
@@ -64,8 +64,8 @@ pub(crate) fn test_remove<L: Listed>(list: &L, name: &[u8]) -> Result<(), Refusa
     Ok(())
 }
 
-/// Returns the positions of the libraries with the names `names`. If one of these libraries isn't
-/// installed, returns `None`.
+/// Returns the positions of the libraries with the names `names`, or `None` if one of these
+/// libraries isn't installed.
 fn positions_of<L: Listed>(list: &L, names: &[&[u8]]) -> Option<ArrayVec<usize, MOST_PRELOADS>>
     requires { length names.now ≤ most_preloads }
     ensures named { IfSome result (λ positions.
@@ -87,7 +87,7 @@ fn positions_of<L: Listed>(list: &L, names: &[&[u8]]) -> Option<ArrayVec<usize, 
 }
 
 /// Makes all tests for setting the preloads to `names`, except the test of the generation. Returns
-/// the positions of these libraries, or the first refusal that applies.
+/// the positions of these libraries, or the refusal of the first test that refuses.
 pub(crate) fn test_preloads<L: Listed>(
     list: &L,
     names: &[&[u8]],

@@ -10,7 +10,7 @@ use std::alloc::Global;
 use std::marker::Model;
 
 /// A registry during an update: the current state on its disk, and a draft of the next state. In
-/// contracts, this value is the draft.
+/// contracts, the value is the draft.
 pub struct Update<D: Disk> {
     pub(crate) alloc: Global,
     pub(crate) draft: store::Update<D>,
@@ -31,7 +31,7 @@ impl<D: Disk> Registry<D> {
     ghost use Rattle.store.specs.Opened.{IsAt};
 
     /// Begins an update, whose draft is the current state. Makes no call of the disk. Refuses with
-    /// S2 (Reopen) or S11 (OutOfMemory), and hands the registry back.
+    /// S2 (Reopen) or S11 (OutOfMemory), and then also returns the registry.
     pub fn update(self) -> Result<Update<D>, (Refusal, Registry<D>)>
         ensures begun { IfOk result (λ update. update ≡ begun self) }
         ensures usable { IfOk result (λ update. IsFalse self.failed) }
@@ -77,9 +77,9 @@ impl<D: Disk> Update<D> {
     }
 
     /// Commits the draft: makes one change of the registry, or none if the draft has no change.
-    /// Allocates no memory, and never lacks sectors. Refuses with S1 (Device) or S2 (Reopen), and
-    /// the update is then given up. After S1 the disk has to be opened again, and may hold the
-    /// state before or after the commit.
+    /// Allocates no memory, and takes no sectors that it could lack. Refuses with S1 (Device) or S2
+    /// (Reopen), and then gives the update up. After S1, the disk may hold the state before or
+    /// after the commit, and has to be opened again.
     pub fn commit(self) -> (Result<(), Refusal>, Registry<D>)
         // A stop at any moment leaves the state before the commit, or the draft's whole state.
         ensures any_moment { (s d : State) → IsDraftedAt D.facts self s d
@@ -88,9 +88,9 @@ impl<D: Disk> Update<D> {
         ensures ok { (s d : State) → IsDraftedAt D.facts self s d → OnOk result.0
             (IsAt D.facts result.1 (committed self.touched s d)) }
 
-        // Suppose that the update was begun on a registry at a state in which each file is a
-        // library, and that these requests were planned. Then the update is one exchange of a run,
-        // is made as a whole or not at all, and leaves only files that are libraries.
+        // If the update began on a registry at a state in which each file is a library, and its
+        // requests `requests` were planned, then the update is one exchange of a run, is made
+        // completely or not at all, and leaves only files that are libraries.
         ensures made { (old : Opened D) (s : State) (requests : List Request)
             (answers : List Reply) → registry.IsAt D.facts old s
             → Plans D.facts (begun old) self requests answers → (s' : State)
@@ -99,7 +99,7 @@ impl<D: Disk> Update<D> {
         // The held byte strings stay unchanged.
         ensures held { KeepsHeld D.facts self.store result.1 }
 
-        // On any disk.
+        // This clause holds on any disk, honest or not.
         ensures on_any_disk { Changed D.facts Refusal.Device Refusal.Reopen
             self.store result.1 (commit_calls self.touched (length self.entries))
             (λ e. (e ≡ Refusal.Device) ⊎ (e ≡ Refusal.Reopen)) result.0 }
@@ -115,13 +115,13 @@ impl<D: Disk> Update<D> {
         (in_words(made), Registry { alloc, store })
     }
 
-    /// Gives the update up: the registry is as it was before the update. Makes no call of the disk.
-    /// May also be called after S2 (Reopen).
+    /// Gives the update up, and returns the registry as it was before the update. Makes no call of
+    /// the disk. You may also call it after S2 (Reopen).
     pub fn give_up(self) -> Registry<D>
         ensures same { result ≡ self.store }
 
-        // If the update was begun on a registry at a state, the registry stays at that state,
-        // whatever the update's requests were, and even if a write failed.
+        // If the update began on a registry at a state, the registry stays at that state. This
+        // holds for any requests of the update, and even if a write failed.
         ensures given_up { (old : Opened D) (s : State) (requests : List Request)
             (answers : List Reply) → registry.IsAt D.facts old s
             → Run (DraftAnswers D.facts) (begun old) requests answers self

@@ -18,7 +18,7 @@ impl<D: Disk> Update<D> {
         ensures applied { (s d : State) → IsDraftedAt D.facts self.now s d
             → AppliesDraft D.facts self.now self.now s d list result }
 
-        // On any disk.
+        // This clause holds on any disk, honest or not.
         ensures reopen { (result ≡ Reply.Refused Refusal.Reopen) ↔ IsTrue self.now.store.failed }
         ensures answers { IsListAnswer result }
         ensures device { result ≡ Reply.Refused Refusal.Device → ⊥ }
@@ -33,15 +33,16 @@ impl<D: Disk> Update<D> {
     }
 
     /// Applies `command` to the draft. The answer is a step of the step table in the draft's state.
-    /// A change is planned or refused. A listing and a bind use the draft as it is. The current
-    /// state stays unchanged. A refusal also leaves the draft unchanged.
+    /// A change is planned or refused. A listing and a bind use the draft as it is now. The current
+    /// state doesn't change, and a refusal leaves the draft unchanged too.
     pub fn apply(&mut self, command: &Command<'_>) -> Reply
         ensures applied { (s d : State) → IsDraftedAt D.facts self.old s d
             → AppliesDraft D.facts self.old self.new s d (request_of command.now) result }
         ensures on_any_disk { AnsweredDraft D.facts self.old self.new
             (request_of command.now) result }
 
-        // A bind makes at most the calls of a bind over the draft's state, and writes nothing.
+        // A bind makes at most as many calls as a bind over the draft's state needs, and writes
+        // nothing.
         ensures bound { (s d : State) → IsDraftedAt D.facts self.old s d → IsBoundBeside
             D.facts self.old self.new d (request_of command.now) result }
     {

@@ -45,14 +45,14 @@ fn read_drafted<D: Disk>(
     ensures all_calls { IfOk result (λ file. AreCallsExactly (data_sectors file.bytes)
         (D.facts draft.old.store.disk) (D.facts draft.new.store.disk)) }
 {
-    // This call lets proofs use that the entry has the length of the file.
+    // This call states for the proof that the entry has the length of the file.
     draft.length(position);
     let bytes = draft.read_blob(alloc, position)?;
     LibraryFile::new(alloc, draft.name(position), bytes)
 }
 
-/// Reads the files of a draft that a program needs, in load order: each file once, and no other
-/// file.
+/// Reads the files of a draft that a program needs, in load order. Reads each of these files once,
+/// and no other file.
 fn read_needed_of<D: Disk>(
     alloc: Global,
     draft: &mut store::Update<D>,
@@ -98,9 +98,9 @@ impl<D: Disk> Update<D> {
     ghost use Rattle.registry.specs.Drafting.{draft_phase};
     ghost use Rattle.registry.specs.inside.Drafting.{ReadsBeside};
 
-    /// Returns the image of an admitted program at `base`, or a refusal. Requires that no test
-    /// refuses the program by itself. If a read is refused, the refusal is S1 (Device), S5
-    /// (Damaged) or S11 (OutOfMemory), and no further file is read. Otherwise the refusal is B3
+    /// Returns the image of an admitted program at `base`, or a refusal. The tests of the program
+    /// without its libraries must have accepted it. If a read is refused, returns S1 (Device), S5
+    /// (Damaged) or S11 (OutOfMemory), and reads no further file. Otherwise a refusal is B3
     /// (Missing), B4 (NoRoom), B5 (Undefined) or, if memory is refused, S11.
     fn bind_admitted(&mut self, program: &Admitted<'_>, base: u64) -> Result<Image, Refusal>
         requires { program_refusal program.now base ≡ None }
@@ -128,7 +128,7 @@ impl<D: Disk> Update<D> {
     }
 
     /// Returns the image of the program `file` at `base`, or the first refusal. Tests the program
-    /// by itself before any call of the disk.
+    /// without its libraries before any call of the disk.
     fn image(&mut self, file: &[u8], base: u64) -> Result<Image, Refusal>
         ensures step { (s d : State) → IsDraftedAt D.facts self.old s d
             → DraftStep (draft_phase D.facts self.old d) (bind file.now base)
@@ -155,17 +155,18 @@ impl<D: Disk> Update<D> {
         self.bind_admitted(&program, base)
     }
 
-    /// Returns the reply to `Bind`. It is the reply that a bind would get if the draft were
-    /// committed now.
+    /// Returns the reply to `Bind`. A bind would return the same reply if the draft were committed
+    /// now.
     pub(crate) fn bind(&mut self, program: &[u8], base: u64) -> Reply
         ensures applied { (s d : State) → IsDraftedAt D.facts self.old s d
             → AppliesDraft D.facts self.old self.new s d (bind program.now base) result }
 
-        // The bind makes at most the calls of a bind over the draft's state, and writes nothing.
+        // The bind makes at most as many calls as a bind over the draft's state needs, and writes
+        // nothing.
         ensures bound { (s d : State) → IsDraftedAt D.facts self.old s d
             → IsBoundBeside D.facts self.old self.new d (bind program.now base) result }
 
-        // On any disk.
+        // This clause holds on any disk, honest or not.
         ensures read { ReadsBeside D.facts self.old self.new }
         ensures alone { program_refusal program.now base ≢ None → self.new ≡ self.old }
         ensures failed { IsTrue self.old.store.failed

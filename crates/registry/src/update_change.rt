@@ -19,8 +19,8 @@ impl<D: Disk> Update<D> {
     ghost use Rattle.registry.specs.Drafting.{AppliesDraft};
     ghost use Rattle.registry.specs.inside.Drafting.{IsPlanned};
 
-    /// Installs the library `bytes` in the draft, after the draft's other libraries. Its file is
-    /// written to unused sectors.
+    /// Installs the library `bytes` in the draft, after the draft's other libraries. Writes its
+    /// file to unused sectors.
     pub(crate) fn install(&mut self, bytes: &[u8]) -> Result<(), Refusal>
         ensures applied { (s d : State) → IsDraftedAt D.facts self.old s d → AppliesDraft D.facts
             self.old self.new s d (install bytes.now) (answer_of result) }
@@ -37,7 +37,7 @@ impl<D: Disk> Update<D> {
         in_words(self.draft.put_new(name, bytes))
     }
 
-    /// Replaces the file of a library in the draft. The library keeps its place.
+    /// Replaces the file of a library in the draft. The library keeps its position.
     pub(crate) fn replace(&mut self, bytes: &[u8]) -> Result<(), Refusal>
         ensures applied { (s d : State) → IsDraftedAt D.facts self.old s d → AppliesDraft D.facts
             self.old self.new s d (replace bytes.now) (answer_of result) }

@@ -23,8 +23,8 @@ use sector_disk::Disk;
 use std::alloc::{AllocError, Global};
 use store::{Store, StoreRefusal};
 
-/// A walk by levels through the files that a program needs. It has the needs found so far, and the
-/// files that were read, in load order.
+/// A walk, level by level, through the files that a program needs. It has the needs found so far,
+/// and the files that were read, in load order.
 #[derive(Drop)]
 pub(crate) struct Walk {
     pub(crate) needs: Needs,
@@ -32,7 +32,7 @@ pub(crate) struct Walk {
 }
 
 impl Walk {
-    /// Starts a walk: notes the needs of the program, and reads no file.
+    /// Starts a walk: stores the needs of the program, and reads no file.
     pub(crate) fn start<N: Named>(
         alloc: Global,
         names: &N,
@@ -56,7 +56,7 @@ impl Walk {
         Ok(Walk { needs, files })
     }
 
-    /// Returns whether the queue has a file that hasn't been read.
+    /// Returns whether the queue has a file that hasn't been read yet.
     pub(crate) fn has_next(&self) -> bool
         ensures yes { result ≡ true
             → length self.now.files.items + 1 < length self.now.needs.places.places }
@@ -68,7 +68,7 @@ impl Walk {
         self.files.len() + 1 < self.needs.places.count()
     }
 
-    // Does nothing. Its clause lets proofs use that no place occurs twice.
+    // Does nothing. Its clause states for proofs that no place occurs twice.
     fn places_are_apart(&self)
         ensures { AreApart self.now.needs.places.limit self.now.needs.places.places }
     {
@@ -89,8 +89,8 @@ impl Walk {
         self.needs.places.at(self.files.len() + 1) - 1
     }
 
-    /// Adds the next file, which has been read, to the walk, and notes the needs of that file. If
-    /// memory is refused, the walk is unchanged.
+    /// Adds the next file, which has been read, to the walk, and stores the needs of that file. If
+    /// memory is refused, leaves the walk unchanged.
     pub(crate) fn take<N: Named>(
         &mut self,
         alloc: Global,
@@ -120,7 +120,7 @@ impl Walk {
         Ok(())
     }
 
-    /// Reads the whole next file, admits it, and notes its needs. A refusal leaves the walk
+    /// Reads and admits the next file, and stores its needs. If it refuses, leaves the walk
     /// unchanged.
     pub(crate) fn step<D: Disk>(
         &mut self,

@@ -15,15 +15,15 @@ pub(crate) struct Allowed {
 }
 
 impl Allowed {
-    // Notes that a change was acknowledged. This is wrong if a change failed before it.
+    // Records that a change was acknowledged. This is wrong if an earlier change failed.
     fn acknowledge(&mut self) {
         self.right = self.right && self.least == self.most;
         self.least = self.least.saturating_add(1);
         self.most = self.least;
     }
 
-    // Notes an answer that isn't the expected one. If a change failed because of the disk, the disk
-    // may or may not have the change.
+    // Records an answer that isn't the expected one. If a change failed because of the disk, the
+    // disk may have the change or not.
     fn refuse(&mut self, answer: &[u8], is_change: bool) {
         self.right = self.right && (answer == DEVICE || answer == REOPEN);
         if is_change && answer == DEVICE {

@@ -9,7 +9,7 @@ use std::io::Write;
 /// The text of the reply to an accepted change.
 pub(crate) const DONE: &[u8] = b"done";
 
-/// The texts of two refusals: a call of the disk failed now, or a call failed before.
+/// The texts of two refusals: a call of the disk failed now, or an earlier call failed.
 pub(crate) const DEVICE: &[u8] = b"Device";
 
 pub(crate) const REOPEN: &[u8] = b"Reopen";

@@ -1,5 +1,5 @@
-// Events of a registry with binders. They happen on a disk whose calls are cut, and their answers
-// are compared with the expected ones.
+// Events of a registry with binders. They are carried out on a disk whose calls are cut, and their
+// answers are compared with the expected ones.
 
 use crate::cut::Cut;
 use crate::event::Event;
@@ -61,14 +61,14 @@ impl Course {
         })
     }
 
-    /// Makes the plain registry after the changes `start`. `keeps` says whether its binders keep
-    /// the state in which they begin.
+    /// Makes the plain registry after the changes `start`. If `keeps` is true, its binders keep the
+    /// state in which they begin.
     pub(crate) fn plain(&self, alloc: Global, keeps: bool) -> Result<Plain> {
         Plain::of(alloc, self.sectors, &self.start, keeps)
     }
 
-    /// Returns the cuts of each call of the opening and of each event, and of one call after all of
-    /// them, which is never made.
+    /// Returns the cuts of each call of the opening and of each event, and the cut of one call
+    /// after all of them, which is never made.
     pub(crate) fn cuts(&self, alloc: Global) -> Result<Vec<Cut>> {
         let mut before = Seen::of(alloc, self.sectors, &self.start, &self.probe)?.opening;
         let mut cuts = Vec::new(alloc);
@@ -85,7 +85,7 @@ impl Course {
         Ok(cuts)
     }
 
-    // Makes the first `count` events happen with this cut, and compares the answers. Returns the
+    // Carries out the first `count` events with this cut, and compares the answers. Returns the
     // plain registry and the disk.
     fn leave(&self, tally: &mut Tally, count: usize, cut: Cut) -> Result<(Plain, Memory)> {
         let alloc = tally.rt.alloc();
@@ -107,10 +107,10 @@ impl Course {
         }
     }
 
-    // Makes the events happen with this cut, and opens the disk that the cut leaves. A cut of only
-    // one call leaves the same as a cut of that call and all later ones: no call follows a change
-    // that failed, and a bind that failed changes nothing. A call that fails before it reaches the
-    // disk leaves the same as a late failure of the call before it.
+    // Carries out the events with this cut, and opens the disk that the cut leaves. A cut of only
+    // one call leaves the same disk as a cut of that call and all later ones: no call follows a
+    // change that failed, and a bind that failed changes nothing. A call that fails before it
+    // reaches the disk leaves the same disk as a late failure of the previous call.
     fn cut_list_at(&self, tally: &mut Tally, cut: Cut) -> Result<()> {
         let (plain, disk) = self.leave(tally, self.run.events.len(), cut)?;
         let mut sides = plain.sides(&self.probe)?;
@@ -153,7 +153,7 @@ impl Course {
     }
 
     // Opens the disk that the first `count` events leave. `before` is the disk before the last of
-    // these events. If that event isn't a change, it has to leave the disk unchanged.
+    // these events. If that event isn't a change, it must leave the disk unchanged.
     fn follow_one(&self, tally: &mut Tally, count: usize, before: &Memory) -> Result<Memory> {
         let (plain, disk) = self.leave(tally, count, Cut::NONE)?;
         self.open_flight(tally, &plain, &disk)?;
@@ -173,7 +173,7 @@ impl Course {
         Ok(())
     }
 
-    // Opens once more the disk that the events leave. It has no binder at first, and then a new one
+    // Opens the disk that the events leave again. It has no binder at first, and then a new binder
     // binds.
     fn go_on(&self, tally: &mut Tally, plain: &Plain, disk: Memory) -> Result<()> {
         let alloc = tally.rt.alloc();
@@ -184,8 +184,8 @@ impl Course {
         Ok(())
     }
 
-    // Makes the events happen with this cut, and opens the disk that the cut leaves. The disk must
-    // not be changed by events after a failed change, nor by a failed read.
+    // Carries out the events with this cut, and opens the disk that the cut leaves. Events after a
+    // failed change must not change the disk, and neither must a failed read.
     fn cut_flight_at(&self, tally: &mut Tally, cut: Cut) -> Result<()> {
         let (plain, disk) = self.leave(tally, self.run.events.len(), cut)?;
         self.open_flight(tally, &plain, &disk)?;
@@ -204,8 +204,8 @@ impl Course {
         Ok(())
     }
 
-    // Compares the disk with the one that only the events up to the cut leave. If the event that
-    // was cut isn't a change, it isn't among these events.
+    // Compares the disk with the one that only the events before the cut leave. The event that was
+    // cut is one of these events only if it is a change.
     fn compare_left(&self, tally: &mut Tally, disk: &Memory, cut: Cut) -> Result<()> {
         let is_change = self.is_change(cut.event);
         if cut.forever || is_change {

@@ -1,4 +1,4 @@
-// Cuts: the call of the disk that fails, and how it fails.
+// Cuts. A cut is a call of the disk that fails, and the way in which it fails.
 
 use sector_disk::{Fuse, Memory};
 

@@ -80,7 +80,7 @@ fn letter(word: &str) -> u8 {
     }
 }
 
-// Returns the name that consists of a letter.
+// Returns the name that is this letter.
 fn name_of(letter: u8) -> &'static [u8] {
     let place = LETTERS.iter().take_while(|other| **other != letter).count();
     LETTERS.get(place..place.saturating_add(1)).unwrap_or(b"")
@@ -161,10 +161,10 @@ impl Event {
         }
     }
 
-    /// Returns how many calls of the disk a change makes after which there are `libraries`
-    /// libraries. A change writes the sectors of the file and its entry and the catalogues, makes a
-    /// sync, writes the root, and makes a sync. A removal writes no file, and a change of the
-    /// preloads writes only the root.
+    /// Returns the number of calls of the disk that a change makes. There are `libraries` libraries
+    /// after the change. A change writes the sectors of the file and its entry and the catalogues,
+    /// makes a sync, writes the root, and makes a sync. A removal writes no file, and a change of
+    /// the preloads writes only the root.
     pub(crate) fn calls(&self, libraries: usize) -> u64 {
         let catalogues = libraries.div_ceil(64) as u64;
         let file = self.bytes.len().div_ceil(512) as u64;
@@ -175,7 +175,7 @@ impl Event {
         }
     }
 
-    /// Returns whether the event, if it isn't refused, is a change.
+    /// Returns whether the event is a change, unless it is refused.
     pub(crate) fn is_change(&self) -> bool {
         matches!(
             self.what,

@@ -1,9 +1,9 @@
 //! The program `registry_cuts`: cuts the power of registries at every call of their disk, and opens
-//! every mixture that is left. It compares the listing and the binds of each mixture with those of
-//! the states that may be left.
+//! every mixture that a cut leaves. It compares the listing and the binds of each mixture with
+//! those of the states that are allowed.
 //!
-//! The arguments of the command line name the files that have the program's rows; the README of
-//! this crate has their format.
+//! The arguments of the command line name the files that have the program's rows. The README of
+//! this crate describes their format.
 #![tactic(auto)]
 
 mod allowed;

@@ -5,7 +5,7 @@ use sector_disk::{Disk, Memory, SECTOR_BYTES};
 use std::alloc::Global;
 
 /// Returns the picks of each mixture: the number of the content that each sector keeps. Each sector
-/// that was written and isn't synced multiplies the number of mixtures by its number of contents.
+/// with unsynced writes multiplies the number of mixtures by the number of its contents.
 pub(crate) fn all_picks(alloc: Global, disk: &Memory) -> Result<Vec<Vec<usize>>> {
     let mut all = Vec::new(alloc);
     all.push(vec![in alloc; 0; disk.sectors() as usize]?)?;

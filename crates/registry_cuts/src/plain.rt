@@ -40,20 +40,20 @@ pub(crate) struct Plain {
     alloc: Global,
     sectors: u32,
     // Whether binders keep the state in which they began. If they don't, they keep no libraries,
-    // and their answers are about the state at their last step; this is wrong on purpose.
+    // and their answers are about the state at their last step. This is a deliberate fault.
     keeps: bool,
     registry: PlainRegistry,
     holds: Vec<Hold>,
     flights: Vec<Option<Flight>>,
     // The changes that were accepted.
     old: Vec<Rc<Event>>,
-    // The same changes, followed by the change that failed, if one did.
+    // The same changes and, after them, the change that failed, if there is one.
     new: Vec<Rc<Event>>,
-    /// The state that has to be found if the disk is opened again.
+    /// The state that must be found if the disk is opened again.
     pub(crate) wanted: Wanted,
 }
 
-// Only this function drops the parts: a derived drop would be proved again on each way out of every
+// Only this function drops the parts. A derived drop would be proved again on each way out of every
 // function that has a `Plain`.
 impl Drop for Plain {
     fn drop(self) {
@@ -82,7 +82,7 @@ fn refused(alloc: Global, refusal: Refusal) -> Result<Told> {
     told(alloc, EventReply::Replied(Reply::Refused(refusal)), 0)
 }
 
-// If the library `name` is listed, appends to `steps` the number of sectors of its file.
+// Appends the number of sectors of the library `name` to `steps`, if the library is listed.
 fn put_sectors(steps: &mut Vec<u64>, listing: &Listing, name: &[u8]) -> Result<()> {
     for (other, length) in &listing.libraries {
         if other.as_bytes() == name {
@@ -93,7 +93,7 @@ fn put_sectors(steps: &mut Vec<u64>, listing: &Listing, name: &[u8]) -> Result<(
 }
 
 impl Plain {
-    /// Makes a registry after the changes `start`, without binders. `keeps` says whether binders
+    /// Makes a registry after the changes `start`, without binders. If `keeps` is true, binders
     /// keep the state in which they begin.
     pub(crate) fn of(
         alloc: Global,
@@ -125,7 +125,7 @@ impl Plain {
         self.new.len() > self.old.len()
     }
 
-    // Notes a change that was accepted.
+    // Records a change that was accepted.
     fn note(&mut self, change: &Rc<Event>) -> Result<()> {
         self.old.push(Rc::clone(change)?)?;
         self.new.push(Rc::clone(change)?)?;
@@ -169,9 +169,10 @@ impl Plain {
         room
     }
 
-    // Returns how many sectors each step of a program's bind reads, with the first step last in the
-    // list. The first step and the last step read no sectors. Each step between them reads a
-    // library: first the preloads, and then the needed library. Libraries need no libraries.
+    // Returns the number of sectors that each step of a program's bind reads, with the first step
+    // last in the list. The first step and the last step read no sectors. Each step between them
+    // reads a library: first the preloads, and then the needed library. Libraries need no
+    // libraries.
     fn steps(&self, needed: u8) -> Result<Vec<u64>> {
         let needed = [needed];
         let listing = self.registry.list()?;
@@ -189,8 +190,8 @@ impl Plain {
         Ok(steps)
     }
 
-    // Returns how many calls of the disk a command makes. If the command isn't carried out, only a
-    // bind makes calls: it reads libraries until one is missing.
+    // Returns the number of calls of the disk that a command makes. If the command isn't carried
+    // out, only a bind makes calls: it reads libraries until one is missing.
     fn calls(&self, event: &Event, is_done: bool) -> Result<u64> {
         if is_done {
             return Ok(event.calls(self.registry.list()?.libraries.len()));
@@ -219,8 +220,7 @@ impl Plain {
         refused(self.alloc, Refusal::Device)
     }
 
-    // Returns the answer to a command. If there is a cut and the command makes calls, the cut
-    // applies.
+    // Returns the answer to a command. A cut applies if there is one and the command makes calls.
     fn give(&mut self, event: &Rc<Event>, cut: Option<Cut>) -> Result<Told> {
         let room = self.room();
         self.registry.set_sectors(room);
@@ -271,8 +271,8 @@ impl Plain {
         }
     }
 
-    // Returns the answer to a step of the binder in slot `slot`. If there is a cut and the step
-    // makes calls, the cut applies.
+    // Returns the answer to a step of the binder in slot `slot`. A cut applies if there is one and
+    // the step makes calls.
     fn advance(&mut self, slot: usize, cut: Option<Cut>) -> Result<Told> {
         let calls = match self.flights.get(slot) {
             Some(Some(flight)) => flight.steps.last().copied().unwrap_or(0),
@@ -295,8 +295,7 @@ impl Plain {
         self.flights.get_mut(slot)?.take()
     }
 
-    /// Makes an event happen. If there is a cut and the event makes calls of the disk, the cut
-    /// applies.
+    /// Carries out an event. A cut applies if there is one and the event makes calls of the disk.
     pub(crate) fn happen(&mut self, event: &Rc<Event>, cut: Option<Cut>) -> Result<Told> {
         match event.what {
             What::Advance => self.advance(event.slot, cut),
@@ -310,7 +309,7 @@ impl Plain {
         }
     }
 
-    /// Makes events happen with this cut, and returns their answers.
+    /// Carries out events with this cut, and returns their answers.
     pub(crate) fn run(&mut self, events: &[Rc<Event>], cut: Cut) -> Result<Vec<Vec<u8>>> {
         let mut answers = Vec::new(self.alloc);
         for (at, event) in events.iter().enumerate() {
@@ -320,8 +319,8 @@ impl Plain {
         Ok(answers)
     }
 
-    /// If `is_new` is true, returns the changes that lead to the new state, and otherwise the
-    /// changes that lead to the old state.
+    /// Returns the changes that lead to the new state if `is_new` is true, and those that lead to
+    /// the old state otherwise.
     pub(crate) fn changes(&self, is_new: bool) -> &[Rc<Event>] {
         if is_new { &self.new } else { &self.old }
     }

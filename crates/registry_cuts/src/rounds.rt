@@ -1,6 +1,5 @@
-// Rounds: a disk is opened, commands run on it, and a stop follows, as in `run_rounds`. Each round
-// is also played call by call, to find the contents that each sector may keep: it is cut at each of
-// its calls, with every pick.
+// Rounds: a disk is opened, commands run on it, and a stop follows, as in `run_rounds`. To find the
+// contents that each sector may keep, each round is also cut at each of its calls, with every pick.
 
 use crate::answer::answers;
 use crate::course::Course;
@@ -29,7 +28,7 @@ struct Turn {
     picks: Vec<usize>,
 }
 
-// Rounds that were played: the changes that were made in them and before, and the disk after them.
+// Rounds that were played: the changes in them and before them, and the disk after them.
 #[derive(Drop)]
 struct Past {
     turns: Vec<Rc<Turn>>,
@@ -84,8 +83,8 @@ fn round<'b>(alloc: Global, turn: &Turn, events: &'b [Rc<Event>]) -> Result<Roun
 }
 
 // Returns the expected answers of a round of these events with this cut. If the cut is in the
-// round's opening, no command runs, and the disk is left as if the first command's first call were
-// cut.
+// round's opening, no command runs, and the disk is the same as after a cut of the first command's
+// first call.
 fn wanted(plain: &mut Plain, events: &[Rc<Event>], cut: Cut) -> Result<Told> {
     if cut.is_in_opening() {
         let _ = plain.run(events.get(..1).unwrap_or(events), cut)?;
@@ -204,7 +203,8 @@ impl Game {
         Ok(())
     }
 
-    // Plays one more round after the rounds of `past`: cut at each of its calls, and without a cut.
+    // Plays one more round after the rounds of `past`: with a cut at each of its calls, and without
+    // a cut.
     fn play_behind(&mut self, tally: &mut Tally, past: &Past, course: &Course) -> Result<()> {
         for &cut in &course.cuts(tally.rt.alloc())? {
             if cut.forever {

@@ -109,7 +109,7 @@ fn run_row(tally: &mut Tally, row: &str) -> Result<()> {
     run_word(tally, word, disk, &start, rest)
 }
 
-/// Runs the rows of a file. A row that begins with `wrong` is wrong on purpose.
+/// Runs the rows of a file. A row that begins with `wrong` has a deliberate fault.
 pub(crate) fn run_file(tally: &mut Tally, file: &str) -> Result<()> {
     for line in &lines(tally, file)? {
         let line = line.as_str();

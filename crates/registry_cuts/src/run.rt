@@ -11,7 +11,7 @@ use std::alloc::Global;
 use std::rc::Rc;
 use store::StoreRefusal;
 
-/// How a registry is made on a disk.
+/// The way in which a registry is made on a disk.
 #[derive(Clone, Copy)]
 pub(crate) enum Beginning {
     Open,
@@ -36,7 +36,7 @@ pub(crate) struct Run {
     pub(crate) events: Vec<Rc<Event>>,
 }
 
-// Makes events happen, and returns the answers.
+// Carries out events, and returns the answers.
 fn happen(
     alloc: Global,
     binders: &mut Binders<Powered>,
@@ -51,7 +51,7 @@ fn happen(
 }
 
 impl Run {
-    /// Makes the first `count` events happen with this cut. Returns their answers, and the disk.
+    /// Carries out the first `count` events with this cut. Returns their answers, and the disk.
     pub(crate) fn cut(&self, alloc: Global, count: usize, cut: Cut) -> Result<(Told, Powered)> {
         let disk = cut.of(self.disk.copy()?);
         let events = self.events.get(..count).unwrap_or(&self.events);

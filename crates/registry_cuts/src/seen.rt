@@ -15,7 +15,7 @@ use std::rc::Rc;
 use store::StoreRefusal;
 
 /// Commands that show the state of a registry. They bind a program that needs the library `a` and a
-/// program that needs no library, and install libraries to find the number of free sectors.
+/// program that needs no library, and install libraries to find out the number of free sectors.
 #[derive(Drop)]
 pub(crate) struct Probe {
     needing: Vec<u8>,
@@ -38,7 +38,7 @@ pub(crate) struct Seen {
 impl Probe {
     /// Makes a probe. It shows whether the library `a` is installed, and in which version. It also
     /// shows how many of `sectors` sectors are free: it installs libraries, each of which takes one
-    /// sector less than the one before it, until one fits. Roots and catalogues take four sectors,
+    /// sector less than the previous one, until one fits. Roots and catalogues take four sectors,
     /// so the first library never fits.
     pub(crate) fn new(alloc: Global, sectors: u32) -> Result<Probe> {
         let mut fitting = Vec::new(alloc);
@@ -93,7 +93,7 @@ fn make(plain: &mut PlainRegistry, changes: &[Rc<Event>]) -> Result<()> {
     Ok(())
 }
 
-// If there is a registry, runs these commands on it.
+// Runs these commands on a registry, if there is one.
 fn ask<D: Disk + Drop>(
     alloc: Global,
     made: std::result::Result<Registry<D>, (StoreRefusal, D)>,

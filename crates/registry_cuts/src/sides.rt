@@ -1,4 +1,5 @@
-// Opens the disks that cuts have left, at once and after each stop, and cuts these openings too.
+// Opens the disks that cuts have left, immediately and after each stop, and cuts these openings
+// too.
 
 use crate::cut::{Cut, Powered};
 use crate::mixture::{all_picks, stopped};
@@ -33,7 +34,7 @@ impl Sides<'_> {
         std::mem::swap(&mut self.old, &mut self.new);
     }
 
-    // Returns the state that has to be found if the disk is opened again at once.
+    // Returns the state that must be found if the disk is opened again immediately.
     fn reopened(&self, wanted: Wanted) -> &Seen {
         match wanted.reopened {
             Which::Old => &self.old,
@@ -58,7 +59,7 @@ impl Sides<'_> {
             old = old || is_old;
             new = new || is_new;
         }
-        // If a stop may leave both states, both have to be found.
+        // If a stop may leave both states, both must be found.
         if wanted.stopped == Which::Either && !(old && new) {
             tally.count(false, &wanted.cut, "one state alone");
         }
@@ -73,7 +74,7 @@ impl Sides<'_> {
         Ok(())
     }
 
-    /// Opens a disk that a cut has left, at once and after each stop.
+    /// Opens a disk that a cut has left, immediately and after each stop.
     pub(crate) fn open(&self, tally: &mut Tally, disk: &Memory, wanted: Wanted) -> Result<()> {
         let again = look(tally.rt.alloc(), disk.copy()?, self.probe)?;
         let right = again == *self.reopened(wanted);
@@ -98,8 +99,8 @@ impl Sides<'_> {
         }
     }
 
-    /// Cuts each call of an opening of this disk. The opening has to return S1 (Device), and has to
-    /// leave the state unchanged.
+    /// Cuts each call of an opening of this disk. The opening must return S1 (Device), and leave
+    /// the state unchanged.
     pub(crate) fn cut_all(&self, tally: &mut Tally, disk: &Memory, wanted: Wanted) -> Result<()> {
         for at in 0..Cut::count(self.reopened(wanted).opening) {
             self.cut_one(tally, disk, Cut::nth(0, 0, at), wanted)?;
@@ -115,7 +116,7 @@ impl Sides<'_> {
     }
 
     /// Cuts each call of an opening of every mixture that a stop of the disk may leave. Each
-    /// opening has to leave the state unchanged.
+    /// opening must leave the state unchanged.
     pub(crate) fn cut_stopped(&self, tally: &mut Tally, disk: &Memory) -> Result<()> {
         for picks in &all_picks(tally.rt.alloc(), disk)? {
             self.cut_left(tally, &stopped(disk, picks)?)?;

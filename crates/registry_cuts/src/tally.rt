@@ -8,7 +8,7 @@ pub(crate) struct Tally<'a> {
     pub(crate) rt: &'a HostRuntime,
     pub(crate) openings: u64,
     pub(crate) wrong: u64,
-    /// Whether the rows are wrong on purpose. If so, wrong openings aren't printed.
+    /// Whether the rows have a deliberate fault. If so, wrong openings aren't printed.
     pub(crate) on_purpose: bool,
 }
 
@@ -22,7 +22,7 @@ impl<'a> Tally<'a> {
         }
     }
 
-    /// Counts an opening, and, if it was wrong, prints its place.
+    /// Counts an opening. If it was wrong, prints its place.
     pub(crate) fn count(&mut self, right: bool, place: &impl Debug, what: &str) {
         self.openings = self.openings.saturating_add(1);
         if right {

@@ -128,7 +128,7 @@ impl Task {
         Ok(())
     }
 
-    /// Does the task on this disk. Returns the answers, and the disk.
+    /// Carries out the task on this disk. Returns the answers, and the disk.
     pub(crate) fn play<D: Disk + Drop>(&self, alloc: Global, disk: D) -> Result<(Told, D)> {
         let registry = match Registry::open(alloc, disk) {
             Ok(registry) => registry,

@@ -1,5 +1,5 @@
-// Does tasks on a disk in memory or on a disk over a file, and cuts each call. Opens each disk that
-// a stop may leave.
+// Carries out tasks on a disk in memory or on a disk over a file, and cuts each call. Opens each
+// disk that a stop may leave.
 
 use crate::allowed::Allowed;
 use crate::cut::Cut;
@@ -58,7 +58,7 @@ fn plan(call: u64, outcome: (usize, bool, bool)) -> FilePlan {
     }
 }
 
-// A task, the kind of its disk, and which of its states have been found.
+// A task, the kind of its disk, and those of its states that have been found.
 #[derive(Drop)]
 struct Trial<'a> {
     task: &'a Task,
@@ -88,7 +88,7 @@ impl<'a> Trial<'a> {
         }
     }
 
-    // Notes that a state was found. Returns whether the disk may have this state.
+    // Records that a state was found. Returns whether the disk may have this state.
     fn note(&mut self, seen: &Seen, allowed: Allowed) -> bool {
         let mut is_right = false;
         for number in allowed.least..=allowed.most {
@@ -154,8 +154,8 @@ impl<'a> Trial<'a> {
         bail!("more calls than {MOST_CALLS}")
     }
 
-    // Does the task over a file with this plan. Returns the number of calls that remain before the
-    // one that is cut.
+    // Carries out the task over a file with this plan. Returns the number of calls that remain
+    // before the one that is cut.
     fn cut_file(&mut self, tally: &mut Tally, plan: FilePlan) -> Result<u64> {
         let alloc = tally.rt.alloc();
         let disk = over(alloc, self.task.disk.copy()?, plan)?;
@@ -170,8 +170,7 @@ impl<'a> Trial<'a> {
         Ok(left)
     }
 
-    // Cuts each call of the file in each way, except the first call, which asks for the number of
-    // sectors.
+    // Cuts each call of the file in each way, except the first call, which counts the sectors.
     fn cut_each_of_file(&mut self, tally: &mut Tally) -> Result<()> {
         let calls = UNCUT.call.saturating_sub(self.cut_file(tally, UNCUT)?);
         for call in 2..=calls {
@@ -182,7 +181,7 @@ impl<'a> Trial<'a> {
         Ok(())
     }
 
-    // Cuts each call in each way. Each state has to be found after some cut.
+    // Cuts each call in each way. Each state must be found after some cut.
     fn cut_all(&mut self, tally: &mut Tally) -> Result<()> {
         match self.under {
             Under::Disk => self.cut_each(tally)?,

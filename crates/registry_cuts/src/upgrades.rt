@@ -54,7 +54,7 @@ fn disk_in(tally: &Tally, file: &str) -> Result<Memory> {
 impl<'a> Trial<'a> {
     // Makes the trial of a disk that has the registry after `changes`. An upgrade makes three calls
     // more than an opening of version 2: it reads no catalogue, because version 1 has none, but it
-    // writes one, syncs, writes the root, and syncs.
+    // writes a catalogue, syncs, writes the root, and syncs.
     fn of(
         alloc: Global,
         beginning: Beginning,
@@ -112,7 +112,7 @@ impl<'a> Trial<'a> {
         Ok(())
     }
 
-    // Opens once more the disk that a cut has left: with each call of the opening cut, or with its
+    // Opens the disk that a cut has left again: with a cut at each call of the opening, or with its
     // fuse.
     fn open_again(&self, tally: &mut Tally, disk: &Memory, wanted: Wanted) -> Result<()> {
         if wanted.cut.forever {
@@ -202,8 +202,8 @@ impl<'a> Trial<'a> {
 }
 
 /// Cuts a format or an upgrade of a disk that has the registry after the changes `changes`, at each
-/// call of the format or the upgrade. Cuts upgrades of version 1 once more after each cut. The disk
-/// is read from a file, or is made with a number of sectors.
+/// call of the format or the upgrade. After each cut of an upgrade of version 1, cuts another
+/// upgrade. The disk is read from a file, or is made with a number of sectors.
 pub(crate) fn cut_making(
     tally: &mut Tally,
     beginning: Beginning,

@@ -11,7 +11,7 @@ pub(crate) enum Which {
     Either,
 }
 
-/// The state that has to be found if the disk is opened again at once, and the states that may be
+/// The state that must be found if the disk is opened again immediately, and the states that may be
 /// found if it is opened after a stop.
 #[derive(Clone, Copy)]
 pub(crate) struct Wanted {
@@ -22,8 +22,8 @@ pub(crate) struct Wanted {
 }
 
 impl Which {
-    /// Returns whether a state may be found. `is_old` says whether it is the old state, and
-    /// `is_new` whether it is the new state.
+    /// Returns whether a state may be found. `is_old` is true if it is the old state, and `is_new`
+    /// is true if it is the new state.
     pub(crate) fn allows(self, is_old: bool, is_new: bool) -> bool {
         match self {
             Which::Old => is_old,

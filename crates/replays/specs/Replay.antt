@@ -13,7 +13,7 @@ use Rattle.requests.specs.declared.refusal.Refusal.TheVariants.{Device, Reopen, 
 use Rattle.requests.specs.declared.reply.Reply.{Reply}
 use Rattle.requests.specs.declared.reply.Reply.TheVariants.{Refused}
 
--- a state of a registry whose files consist of bytes: each number in a file is below 256
+-- a state of a registry whose files are bytes: each number in a file is below 256
 pub record IsStateOfBytes (s : State) : Type 0 where
   pub state : IsState s
   pub bytes : All (λ l. All (λ byte. byte < 256) l.bytes) s.libraries
@@ -23,12 +23,13 @@ abbrev pub preload_requests : List (List ℕ) → List Request
 preload_requests [] = []
 preload_requests (name ∷ names) = set_preloads (name ∷ names) ∷ []
 
--- the requests that turn the empty state into this state: the libraries are installed in the order of
--- the state, and then the preloads are set
+-- the requests that lead from the empty state to this state: the libraries are installed in the
+-- order of the state, and then the preloads are set
 abbrev pub requests_for : State → List Request
 requests_for s = map (λ l. install l.bytes) s.libraries ++ preload_requests s.preloads
 
--- the state with the same libraries and preloads; its generation is the number of requests that make it
+-- the state with the same libraries and preloads; its generation is the number of requests that
+-- lead to it
 abbrev pub copy_of : State → State
 copy_of s = record { generation = length (requests_for s); libraries = s.libraries; preloads = s.preloads }
 
@@ -36,7 +37,7 @@ copy_of s = record { generation = length (requests_for s); libraries = s.librari
 abbrev pub sectors_for : State → ℕ
 sectors_for s = root_sectors + taken_by s
 
--- the state of the phase is the state that the requests `front` make from an empty registry
+-- the state of the phase is the one to which the requests `front` lead from an empty registry
 abbrev pub IsBehind : List Request → Phase → Type 0
 IsBehind front p = p.state ≡ fold accepted empty_state front
 
@@ -46,8 +47,8 @@ abbrev pub HasShortRuns : Phase → Request → Type 0
 HasShortRuns p (install bytes) = p.longest < div_ceil (length bytes) sector_bytes
 HasShortRuns p request = ⊥
 
--- No test refuses the request except S7 and S8. S7 is possible only if the disk has too few sectors for
--- the state, and S8 only if the runs of unused sectors are too short.
+-- No test refuses the request except S7 and S8. S7 is possible only if the disk has too few sectors
+-- for the state, and S8 only if the runs of unused sectors are too short.
 pub record LacksRoomAtMost (s : State) (p : Phase) (request : Request) : Type 0 where
   pub only : (refusal_at p request ≡ None) ⊎ (refusal_at p request ≡ Some Full) ⊎ (refusal_at p request ≡ Some Fragmented)
   pub full : refusal_at p request ≡ Some Full → p.sectors < sectors_for s + p.lone

@@ -26,22 +26,24 @@ use Rattle.program_parts.specs.Streams.{Streams}
 use Rattle.updates.specs.Streams.{CannotWrite, SaysOnly, outputs_of}
 use Rattle.replays.specs.Replay.{IsFault, requests_for, sectors_for}
 
--- the state of the phase is the state that the requests `front` make in a draft of an empty registry
+-- the state of the phase is the one to which the requests `front` lead in a draft of an empty
+-- registry
 abbrev pub IsDraftBehind : List Request → Phase → Type 0
 IsDraftBehind front p = p.state ≡ drafted_by empty_state front
 
--- the number of changes that an update with these requests makes: one if there is any request, and
--- otherwise none
+-- the number of changes that an update with these requests makes: one if there are requests, and
+-- none otherwise
 abbrev pub changes_by : List Request → ℕ
 changes_by [] = 0
 changes_by (request ∷ requests) = 1
 
--- the state with the same libraries and preloads; its generation is the number of changes that an update
--- makes for it
+-- the state with the same libraries and preloads; its generation is the number of changes that an
+-- update makes to reach it
 abbrev pub renewed : State → State
 renewed s = record { generation = changes_by (requests_for s); libraries = s.libraries; preloads = s.preloads }
 
--- a stop at any moment leaves what a stop could leave before, an empty registry, or the whole state
+-- a stop at any moment leaves contents that a stop could leave before, an empty registry, or the
+-- whole state
 abbrev pub LeavesAllOrNothing : {D : Type 0} → (D → DiskFacts) → State → D → D → Type 0
 LeavesAllOrNothing facts s disk left = LeavesOnly (facts disk) (facts left) (λ m. Mixture (facts disk) m ⊎ (Stands m empty_state ⊎ Stands m (renewed s)))
 
@@ -53,21 +55,22 @@ IsHindrance s sectors Fragmented = Unit {0}
 IsHindrance s sectors refusal = IsFault (Refused refusal)
 
 module _ (s : State) (sectors : ℕ) (io : Streams) (ends : Status) where
-  -- after lines that were all planned, a refusal for which `IsHindrance` holds was reported
+  -- after lines that were all planned, a refusal that `IsHindrance` allows was reported
   abbrev pub IsRefusedOnTheWay : Type 0
   IsRefusedOnTheWay = (answers : List Reply) × All (λ answer. answer ≡ Done) answers × (why : Refusal) × IsHindrance s sectors why
       × (ends ≡ refusal_status why) × Tells (outputs_of io) (plan_texts answers ++ command_refusal_text why)
 
-  -- after lines that were all planned, the input failed or memory was refused, and a message reports it
+  -- after lines that were all planned, the input failed or memory was refused, and a message
+  -- reports this
   abbrev pub IsBrokenOnTheWay : Type 0
   IsBrokenOnTheWay = (answers : List Reply) × All (λ answer. answer ≡ Done) answers × (fault : ScriptFault)
       × (ends ≡ fault_status fault) × Tells (outputs_of io) (plan_texts answers) × Says (outputs_of io) (fault_line fault)
 
-  -- the disk failed while it was opened, or memory was refused, and a message reports it
+  -- the disk failed during its opening, or memory was refused, and a message reports this
   abbrev pub IsNotOpened : Type 0
   IsNotOpened = (why : StoreRefusal) × ((why ≡ store.Device) ⊎ (why ≡ store.OutOfMemory)) × SaysOnly (disk_status why) (refusal_line why) io ends
 
-  -- An update with the lines of a dump failed because of its output, lack of room, the disk, its input,
-  -- or lack of memory.
+  -- An update with the lines of a dump failed because of its output, lack of room, the disk, its
+  -- input, or refused memory.
   abbrev pub IsHindered : Type 0
   IsHindered = CannotWrite io ends ⊎ (IsRefusedOnTheWay ⊎ (IsBrokenOnTheWay ⊎ IsNotOpened))

@@ -25,13 +25,14 @@ ghost use Rattle.replays.specs.Replay.{IsBehind, LacksRoomAtMost, HasRoomFor, Is
 
 use sector_disk::Disk;
 
-/// Does nothing. Its clauses are the law that a dump can be run as a script, for disks of type `D`.
+/// Does nothing. Its clauses state the law that a dump can be run as a script, for disks of type
+/// `D`.
 pub fn dump_replays<D: Disk>()
-    // The text consists of whole lines, which install the libraries in the order of the state and
-    // then set the preloads.
+    // The text is whole lines, which install the libraries in the order of the state and then set
+    // the preloads.
     ensures lines { (s : State) → IsStateOfBytes s → IsScript (dump_text s) (requests_for s) }
 
-    // A request, made after the requests before it, can be refused only for lack of room.
+    // A request that is made after the requests before it can be refused only for lack of room.
     ensures room { (s : State) → IsStateOfBytes s → (front rest : List Request)
         (request : Request) (p : Phase) → requests_for s ≡ front ++ request ∷ rest
         → IsBehind front p → LacksRoomAtMost s p request }
@@ -42,17 +43,18 @@ pub fn dump_replays<D: Disk>()
         → IsBehind (map (λ l. install l.bytes) libraries) p → p.sectors < sectors_for s + p.lone
         → refusal_at p (install last.bytes) ≡ Some Full }
 
-    // If there is room, each request is answered Done, unless the disk fails or memory is refused.
+    // If there is room, each request is answered with Done, unless the disk fails or memory is
+    // refused.
     ensures answers { (s : State) → IsStateOfBytes s → (front rest : List Request)
         (request : Request) (p p' : Phase) (answer : Reply)
         → requests_for s ≡ front ++ request ∷ rest → IsBehind front p → HasRoomFor s p request
         → Step p request answer p' → (answer ≡ Done) ⊎ IsFault answer }
 
-    // The requests make a state with the same libraries, bytes, order and preloads.
+    // The requests lead to a state with the same libraries, bytes, order and preloads.
     ensures end { (s : State) → IsStateOfBytes s
         → fold accepted empty_state (requests_for s) ≡ copy_of s }
 
-    // If an empty registry answered each request with Done, the registry is then at the copy.
+    // If an empty registry answered each request with Done, the registry is at the copy afterwards.
     ensures registry { (s : State) → IsStateOfBytes s → (old new : Opened D)
         (answers : List Reply) → IsAt D.facts old empty_state
         → RunsOver D.facts old new empty_state (requests_for s) answers

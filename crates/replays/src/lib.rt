@@ -1,7 +1,7 @@
-//! The laws about replaying a dump, which `rlibreg-tool dump` writes. From the dump of a registry,
-//! `rlibreg script` makes a new registry with the same contents, line by line. `rlibreg-tool
-//! update` makes such a registry in one change. A third law is that a bind of an update has the
-//! same answer as a bind after the update's commit.
+//! The laws about dumps, which `rlibreg-tool dump` writes. With the dump of a registry, `rlibreg
+//! script` makes a new registry with the same contents, line by line. `rlibreg-tool update` makes
+//! such a registry in one change. The third law is that a bind of an update has the same answer as
+//! a bind after the update's commit.
 #![tactic(auto)]
 
 mod bind_law;

@@ -1,4 +1,4 @@
-// The law that one update recreates a registry from its dump.
+// The law that one update makes the same registry again from its dump.
 
 ghost use Rattle.std.specs.Prelude.{◌≡◌, ◌≢◌, ◌<◌, ◌+◌, ◌⊎◌, ℕ, IsTrue, Some};
 ghost use Rattle.std.specs.Prelude.{List, [], ◌∷◌, ◌++◌, map};
@@ -26,15 +26,15 @@ ghost use Rattle.replays.specs.Update.{IsDraftBehind, IsHindered, LeavesAllOrNot
 use sector_disk::Disk;
 use std::io::Write;
 
-/// Does nothing. Its clauses are the law that one update recreates a registry from a dump that was
-/// written for an update. The law holds for disks of type `D` and outputs of type `O`.
+/// Does nothing. Its clauses state the law that one update makes the same registry again from a
+/// dump that was written for an update, for disks of type `D` and outputs of type `O`.
 pub fn dump_updates<D: Disk, O: Write>()
-    // The text consists of whole lines. They install the libraries in the order of the state, and
-    // then set the preloads. The last line is `commit`.
+    // The text is whole lines, which install the libraries in the order of the state and then set
+    // the preloads. The last line is `commit`.
     ensures lines { (s : State) → IsStateOfBytes s
         → IsUpdateText (script_text Update s) (requests_for s) }
 
-    // A request, planned after the requests before it, can be refused only for lack of room.
+    // A request that is planned after the requests before it can be refused only for lack of room.
     ensures room { (s : State) → IsStateOfBytes s → (front rest : List Request)
         (request : Request) (p : Phase) → requests_for s ≡ front ++ request ∷ rest
         → IsDraftBehind front p → LacksRoomAtMost s p request }
@@ -52,13 +52,14 @@ pub fn dump_updates<D: Disk, O: Write>()
         → HasRoomFor s p request → DraftStep p request answer p'
         → (answer ≡ Done) ⊎ IsFault answer }
 
-    // The requests make a state with the same libraries, bytes, order and preloads, in one change.
+    // The requests lead, in one change, to a state with the same libraries, bytes, order and
+    // preloads.
     ensures end { (s : State) → IsStateOfBytes s
         → updated empty_state (requests_for s) ≡ renewed s }
 
-    // If a disk held an empty registry, and an update reads the text, the update ends in one of two
-    // ways. Either it ends with status 0, and the disk holds the same libraries, bytes, order and
-    // preloads; or it ends as `IsHindered` defines.
+    // If a disk held an empty registry, and an update read the text, the update ended with status
+    // 0, and the disk holds the same libraries, bytes, order and preloads; or the update ended in a
+    // way that `IsHindered` defines.
     ensures program { (s : State) → IsStateOfBytes s → (disk left : D) (io : Streams)
         (ends : Status) → IsTrue (D.facts disk).honest → Stands (D.facts disk).now empty_state
         → io.unread ≡ Some (script_text Update s)
@@ -66,7 +67,7 @@ pub fn dump_updates<D: Disk, O: Write>()
         → ((ends ≡ status.Done) × Stands (D.facts left).now (renewed s))
         ⊎ IsHindered s (D.facts disk).sectors io ends }
 
-    // However the update ends, the disk never holds only a part of the state.
+    // Even if the update fails, the disk never holds only a part of the state.
     ensures any_moment { (s : State) → IsStateOfBytes s → (disk left : D) (io : Streams)
         (ends : Status) → IsTrue (D.facts disk).honest → Stands (D.facts disk).now empty_state
         → io.unread ≡ Some (script_text Update s)

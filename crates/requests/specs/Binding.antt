@@ -20,24 +20,23 @@ object_of l = record { name = l.name; file = l.bytes }
 abbrev pub objects : State → List Named
 objects s = map object_of s.libraries
 
--- the numbers of the preloads among the libraries, in the order of the preloads
+-- the positions of the preloads in the list of libraries, in the order of the preloads
 abbrev pub preload_numbers : State → List ℕ
 preload_numbers s = filter_map (λ name. position (bytes_eq name) (names_of s.libraries)) s.preloads
 
--- the objects that are bound for a program at a base, in load order, each at its place
+-- the objects that are bound for a program at a base, in load order, each at its base
 abbrev pub bound_objects : State → List ℕ → ℕ → List Placed
 bound_objects s program base = objects_of program base (objects s) (preload_numbers s)
 
--- B1 to B5: the refusal of a bind by the first test that applies
+-- B1 to B5: the refusal of a bind by the first test that refuses it, or none
 abbrev pub binding_refusal : State → List ℕ → ℕ → Option BindRefusal
 binding_refusal s program base = bind_refusal program base (objects s) (preload_numbers s)
 
--- the image that a bind returns if no test applies
+-- the image that a bind returns if no test refuses it
 abbrev pub bound_image : State → List ℕ → ℕ → MemoryImage
 bound_image s program base = image_of (bound_objects s program base)
 
--- the refusal of a command whose bind is refused; lack of memory is refused with S11, whatever needed
--- the memory
+-- the refusal of a command whose bind is refused; refused memory is reported as S11
 abbrev pub of_bind : BindRefusal → Refusal
 of_bind bind.OutOfMemory = OutOfMemory
 of_bind refusal = Bind refusal

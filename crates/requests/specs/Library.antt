@@ -13,7 +13,8 @@ use Rattle.states.specs.State.{Library}
 abbrev pub library_tests : List ℕ → List (Option FileRefusal)
 library_tests file = first_file_refusal file ∷ (Object BadSoname when has_bad_soname file) ∷ []
 
--- the refusal of a file as a library by the first of these tests, or none if the file is a library
+-- the refusal of a file as a library by the first test that refuses it, or none if the file is a
+-- library
 unfoldable pub library_refusal : List ℕ → Option FileRefusal
 library_refusal file = first_of (library_tests file)
 
@@ -21,7 +22,7 @@ library_refusal file = first_of (library_tests file)
 unfoldable pub name_of : List ℕ → List ℕ
 name_of file = unwrap_or (soname file) []
 
--- no test refuses the file, and the name is its SONAME
+-- all tests accept the file, and the name is the file's SONAME
 pub record IsLibrary (l : Library) : Type 0 where
   pub accepted : library_refusal l.bytes ≡ None
   pub named : soname l.bytes ≡ Some l.name

@@ -7,14 +7,15 @@ use Rattle.requests.specs.Table.{Table}
 -- the value of a registry in contracts: its state, and the known facts of its disk
 pub record Phase : Type 0 where
   pub sectors : ℕ
-  -- the number of sectors in use that don't belong to the state: the sectors of versions that only
+  -- the number of sectors in use that don't belong to the state: those of versions that only
   -- binders hold
   pub lone : ℕ
   -- the number of sectors in the longest runs of unused sectors, with at most as many runs as a file may have extents
   pub longest : ℕ
   -- the number of calls of the disk that have failed
   pub failures : ℕ
-  -- a write or a sync has failed: only another opening finds out which contents the disk has
+  -- whether a write or a sync has failed; if so, the contents of the disk are unknown until it is
+  -- opened again
   pub failed : Bool
   pub state : State
 

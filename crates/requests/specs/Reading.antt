@@ -5,7 +5,8 @@ use Rattle.requests.specs.Library.{library_refusal}
 use Rattle.requests.specs.declared.refusal.Refusal.{Refusal}
 use Rattle.requests.specs.declared.refusal.Refusal.TheVariants.{Object, OutOfMemory}
 
--- why a file isn't read as a library: the first test that applies, or lack of memory for admission
+-- the reason why a file isn't read as a library: the first test that refuses it, or refused memory
+-- for admission
 abbrev pub IsLibraryRefusal : List ℕ → Refusal → Type 0
 IsLibraryRefusal file (Object refusal) = library_refusal file ≡ Some refusal
 IsLibraryRefusal file OutOfMemory = ReadNeedsMemory file

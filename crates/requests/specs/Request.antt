@@ -1,5 +1,4 @@
--- Requests: commands as plain values. A command itself isn't a plain value, because it borrows its
--- bytes.
+-- Requests: commands as plain values. A command isn't a plain value, because it borrows its bytes.
 use Rattle.std.specs.Prelude.{ℕ, List, map}
 use Rattle.requests.specs.declared.command.Command.{Command}
 use Rattle.requests.specs.declared.command.Command.TheVariants as command

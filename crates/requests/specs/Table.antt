@@ -1,5 +1,5 @@
--- The listing of a state, and the facts that the tests of a command read. Neither has bytes of the
--- libraries' files.
+-- The listing of a state, and the facts that the tests of a command read. Neither of them contains
+-- the bytes of the libraries' files.
 use Rattle.std.specs.Prelude.{ℕ, List, map, length}
 use Rattle.states.specs.State.{Library, State}
 
@@ -22,7 +22,7 @@ pub record Table : Type 0 where
   -- the names of the libraries
   pub names : List (List ℕ)
   pub preloads : List (List ℕ)
-  -- the number of free sectors, without those that the catalogues of the next change need
+  -- the number of free sectors, not counting those that the catalogues of the next change need
   pub free : ℕ
   -- the number of sectors in the longest runs of unused sectors, with at most as many runs as a file may have extents
   pub longest : ℕ

@@ -19,7 +19,7 @@ use Rattle.requests.specs.declared.refusal.Refusal.TheVariants.{TooManyPreloads,
 abbrev pub is_installed : Table → List ℕ → Bool
 is_installed t name = has_name t.names name
 
--- a name occurs twice
+-- a name occurs more than once
 abbrev pub has_repeat : List (List ℕ) → Bool
 has_repeat [] = false
 has_repeat (name ∷ others) = has_name others name || has_repeat others
@@ -31,7 +31,7 @@ refusal_of_room room.GenerationEnd = GenerationEnd
 refusal_of_room room.Full = Full
 refusal_of_room room.Fragmented = Fragmented
 
--- the tests for room, each as its refusal if it applies
+-- the refusals of the tests of room that refuse, in the order of the tests
 abbrev pub for_room : List (Bool × RoomRefusal) → List (Option Refusal)
 for_room tests = map (λ test. refusal_of_room test.1 when test.0) tests
 
@@ -39,28 +39,28 @@ for_room tests = map (λ test. refusal_of_room test.1 when test.0) tests
 abbrev pub room_in : Table → Room
 room_in t = record { generation = t.generation; libraries = length t.names; free = t.free; longest = t.longest }
 
--- the tests for C1 and C2, then those for room
+-- the tests for C1 and C2, and then those of room
 abbrev pub install_tests : Table → List ℕ → List (Option Refusal)
 install_tests t bytes =
     option_map Object (library_refusal bytes)
     ∷ (AlreadyInstalled when is_installed t (name_of bytes))
     ∷ for_room (new_tests (room_in t) (length bytes))
 
--- the tests for C1 and C3, then those for room, except that of the number of libraries
+-- the tests for C1 and C3, and then those of room except the test of the number of libraries
 abbrev pub replace_tests : Table → List ℕ → List (Option Refusal)
 replace_tests t bytes =
     option_map Object (library_refusal bytes)
     ∷ (NotInstalled when not (is_installed t (name_of bytes)))
     ∷ for_room (put_tests (room_in t) 0 (length bytes))
 
--- the tests for C3 and C4, then the test of the generation
+-- the tests for C3 and C4, and then the test of the generation
 abbrev pub remove_tests : Table → List ℕ → List (Option Refusal)
 remove_tests t name =
     (NotInstalled when not (is_installed t name))
     ∷ (InPreloads when has_name t.preloads name)
     ∷ for_room (change_tests t.generation)
 
--- the tests for C6, C5 and C3, then the test of the generation
+-- the tests for C6, C5 and C3, and then the test of the generation
 abbrev pub preload_tests : Table → List (List ℕ) → List (Option Refusal)
 preload_tests t names =
     (TooManyPreloads when nat_lt most_preloads (length names))
@@ -68,8 +68,8 @@ preload_tests t names =
     ∷ (NotInstalled when list_any (λ name. not (is_installed t name)) names)
     ∷ for_room (change_tests t.generation)
 
--- The tests of a command. The only file that they read is the command's own. A bind and a listing have
--- no such tests.
+-- The tests of a command. They read no file except the command's own. A bind and a listing have no
+-- such tests.
 abbrev pub tests_of : Table → Request → List (Option Refusal)
 tests_of t (install bytes) = install_tests t bytes
 tests_of t (replace bytes) = replace_tests t bytes
@@ -77,6 +77,6 @@ tests_of t (remove name) = remove_tests t name
 tests_of t (set_preloads names) = preload_tests t names
 tests_of t request = []
 
--- the refusal of a command by the first of these tests that applies
+-- the refusal of a command by the first of these tests that refuses it, or none
 abbrev pub first_refusal : Table → Request → Option Refusal
 first_refusal t request = first_of (tests_of t request)

@@ -1,21 +1,22 @@
 // The commands.
 
-/// A command to a registry. It borrows its bytes.
+/// A command to a registry, with borrowed bytes.
 #[derive(Clone, Copy)]
 pub enum Command<'a> {
-    /// Installs a library, given by the bytes of its file.
+    /// Installs a library. Has the bytes of the library's file.
     Install(&'a [u8]),
-    /// Replaces the installed library that has the same name as this file, given by its bytes.
+    /// Replaces the installed library that has the same name as the new one. Has the bytes of the
+    /// new library's file.
     Replace(&'a [u8]),
     /// Removes the library with this name.
     Remove(&'a [u8]),
-    /// Sets the names of the preloads, in their order.
+    /// Makes the libraries with these names the preloads, in this order.
     SetPreloads(&'a [&'a [u8]]),
     /// Binds a program with the libraries and the preloads.
     Bind {
         /// The bytes of the program's file.
         program: &'a [u8],
-        /// The address at which the program's image starts.
+        /// The base of the program: the address at which its image begins.
         base: u64,
     },
     /// Lists the libraries and the preloads.

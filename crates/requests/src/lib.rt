@@ -1,5 +1,5 @@
 //! Commands to a registry of shared libraries, their answers, and the step table. The step table
-//! states how a command may be answered in a state, and which state the command leaves
+//! states the answers that a command may have in a state, and the state after the command
 //! (specs/Step.antt).
 //!
 //! `library_name` reads a file as a library. The registry that carries out the commands is in the

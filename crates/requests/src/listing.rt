@@ -3,7 +3,7 @@
 use names::Name;
 use std::marker::Model;
 
-/// The libraries and preloads of a registry. In contracts, the value has the two lists.
+/// The libraries and preloads of a registry. In contracts, the value is these two lists.
 #[derive(Debug, Drop)]
 pub struct Listing {
     /// The name of each library, and the length of its file in bytes, in the order of installation.

@@ -1,13 +1,13 @@
-// Why a command was refused.
+// The reasons why a command is refused.
 
 use hash_check::FileRefusal;
 use image::BindRefusal;
 use std::alloc::AllocError;
 
-/// Why a command was refused.
+/// The reason why a command was refused.
 #[derive(Debug, Drop, PartialEq, Eq)]
 pub enum Refusal {
-    /// C1: the file is no library.
+    /// C1: the file isn't a library.
     Object(FileRefusal),
     /// C2: a library with this name is installed.
     AlreadyInstalled,
@@ -23,23 +23,24 @@ pub enum Refusal {
     NoSlot,
     /// C8: the slot has no binder.
     NoSuchBinder,
-    /// B1 to B5: the program isn't bound, for this reason. The reason is never lack of memory.
+    /// B1 to B5: the program isn't bound, for this reason. The reason is never that memory was
+    /// refused.
     Bind(BindRefusal),
     /// S1: a call of the disk failed.
     Device,
-    /// S2: a write or a sync has failed before.
+    /// S2: an earlier write or sync failed.
     Reopen,
-    /// S5: the bytes that were read aren't a library with the expected name. A registry whose files
-    /// were tested when it was opened never returns this on an honest disk.
+    /// S5: the bytes that were read aren't a library with the expected name. On an honest disk, a
+    /// registry never returns this refusal if its files were tested when it was opened.
     Damaged,
-    /// S7: the file costs more sectors than are free. If the list needs one more catalogue, two
-    /// sectors are added to the cost.
+    /// S7: the file takes more sectors than are free, counting two more sectors if the list needs
+    /// one more catalogue.
     Full,
     /// S8: the longest runs of unused sectors are too short for the file.
     Fragmented,
     /// S9: 2,048 libraries are installed.
     TooMany,
-    /// S10: the generation is the greatest possible one.
+    /// S10: the generation already has its greatest value.
     GenerationEnd,
     /// S11: memory was refused.
     OutOfMemory,

@@ -9,8 +9,8 @@ use crate::refusal::Refusal;
 use hash_check::{Admitted, FileRefusal, ReadRefusal};
 use std::alloc::Global;
 
-/// Reads a file and admits it as a library. Returns its name. Refuses with C1 or S11. The call
-/// takes as long as `Admitted::read`.
+/// Reads a file, admits it as a library, and returns the library's name. Refuses with C1 or S11.
+/// Takes as much time as `Admitted::read`.
 pub fn library_name<'a>(alloc: Global, file: &'a [u8]) -> Result<&'a [u8], Refusal>
     ensures ok { OnOk result (library_refusal file.now ≡ None) }
     ensures name { IfOk result (λ name. name.now ≡ name_of file.now) }

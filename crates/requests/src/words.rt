@@ -21,7 +21,7 @@ pub fn are_too_many(names: &[&[u8]]) -> bool
     names.len() > MOST_PRELOADS
 }
 
-/// Returns whether a name occurs twice.
+/// Returns whether a name occurs more than once.
 pub fn has_repeat(names: &[&[u8]]) -> bool
     ensures { result ≡ has_repeat (map (λ n. n.now) names.now) }
 {

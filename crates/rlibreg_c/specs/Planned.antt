@@ -1,4 +1,4 @@
--- How a call that plans a change of a registry ends (own).
+-- The end of a call that plans a change of a registry (own).
 use Rattle.std.specs.Prelude.{◌≡◌, ◌≢◌, ℕ, List}
 use Rattle.requests.specs.Request.{Request}
 use Rattle.c_answers.specs.Answers.{IsChangeAnswered, IsLeft, IsPlanOf}
@@ -11,8 +11,8 @@ pub record IsPlanned (disk : List ℕ) (request : Request) (before after text : 
   -- the plan leads from the state that the bytes hold to the state after the accepted change
   pub plan : told ≡ 0 → IsPlanOf disk request after answer
   pub answered : IsChangeAnswered disk request after text answer told
-  -- unless the status is 0 or reports lack of room or of memory, the buffer is unchanged
+  -- the buffer is unchanged, unless the status is 0 or reports that room or memory is lacking
   pub left : IsLeft before after told
   pub status : answer.status ≡ told
-  -- the result is never S1 (Device): a disk of bytes fails only for lack of memory
+  -- the result is never S1 (Device), because a disk of bytes fails only if memory is refused
   pub device : told ≢ 301

@@ -8,10 +8,10 @@ use c_answers::{Answer, ObjectPlace, SegmentPlace, bind_on};
 use requests::Command;
 use std::alloc::Global;
 
-/// Binds a program at the address `base` with the registry that the sectors of `disk` hold. The
-/// buffers receive the image's objects in load order, its segments, and the bytes of the segments
-/// one after the other, followed by the objects' names. If a buffer is too small, the answer has
-/// the sizes that all three need.
+/// Binds a program at `base` with the registry that the sectors of `disk` hold. Puts the image's
+/// objects in load order, its segments, and its bytes into the buffers: the bytes of the segments
+/// one after the other, followed by the objects' names. If a buffer is too small, returns the sizes
+/// that are needed for all three buffers.
 #[unsafe(no_mangle)]
 pub extern "C" fn rlibreg_bind(
     alloc: Global,
@@ -30,7 +30,7 @@ pub extern "C" fn rlibreg_bind(
         bytes.new text.new answer.new result }
     ensures status { answer.new.status ≡ result }
 
-    // The result is never S1 (Device): a disk of bytes fails only for lack of memory.
+    // The result is never S1 (Device), because a disk of bytes fails only if memory is refused.
     ensures device { result ≢ 301 }
 {
     let command = Command::Bind { program, base };

@@ -8,7 +8,7 @@ use requests::Command;
 use std::alloc::Global;
 
 /// Makes the static executable file of a program with the registry that the sectors of `disk` hold.
-/// The file loads exactly the image that `rlibreg_bind` returns at this base.
+/// The kernel loads exactly the image from it that `rlibreg_bind` returns at this base.
 #[unsafe(no_mangle)]
 pub extern "C" fn rlibreg_executable(
     alloc: Global,
@@ -27,7 +27,7 @@ pub extern "C" fn rlibreg_executable(
     ensures left { result ≢ 0 → bytes.new ≡ bytes.old }
     ensures status { answer.new.status ≡ result }
 
-    // The result is never S1 (Device): a disk of bytes fails only for lack of memory.
+    // The result is never S1 (Device), because a disk of bytes fails only if memory is refused.
     ensures device { result ≢ 301 }
 {
     let command = Command::Bind { program, base };

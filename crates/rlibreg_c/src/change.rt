@@ -24,7 +24,7 @@ pub extern "C" fn rlibreg_plan_install(
     answer.status
 }
 
-/// Plans to replace the library with the same name by the library with the bytes `file`.
+/// Plans to replace the library that has the same name as the library with the bytes `file`.
 #[unsafe(no_mangle)]
 pub extern "C" fn rlibreg_plan_replace(
     alloc: Global,

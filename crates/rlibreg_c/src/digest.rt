@@ -23,7 +23,7 @@ pub extern "C" fn rlibreg_digest(
     ensures left { result ≢ 0 → digest.new ≡ digest.old }
     ensures status { answer.new.status ≡ result }
 
-    // The result is never S1 (Device): a disk of bytes fails only for lack of memory.
+    // The result is never S1 (Device), because a disk of bytes fails only if memory is refused.
     ensures device { result ≢ 301 }
 {
     *answer = digest_on(alloc, disk, name, digest, text);

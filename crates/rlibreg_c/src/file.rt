@@ -23,7 +23,7 @@ pub extern "C" fn rlibreg_file(
     ensures answered { IsFileAnswered disk.now name.now bytes.new text.new answer.new result }
     ensures status { answer.new.status ≡ result }
 
-    // The result is never S1 (Device): a disk of bytes fails only for lack of memory.
+    // The result is never S1 (Device), because a disk of bytes fails only if memory is refused.
     ensures device { result ≢ 301 }
 {
     *answer = file_on(alloc, disk, name, bytes, text);

@@ -14,14 +14,14 @@ pub extern "C" fn rlibreg_plan_format(
     text: &mut [u8],
     answer: &mut Answer,
 ) -> u32
-    // A stop leaves either the disk as it was or the empty registry. After the whole plan it leaves
-    // only the empty registry.
+    // While the plan is carried out, a stop leaves the old disk or the empty registry. After the
+    // whole plan, it leaves only the empty registry.
     ensures plan { result ≡ 0 → IsFormatPlan disk.now plan.new answer.new }
     ensures answered { IsFormatAnswered disk.now plan.new text.new answer.new result }
     ensures left { IsLeft plan.old plan.new result }
     ensures status { answer.new.status ≡ result }
 
-    // The result is never S1 (Device): a disk of bytes fails only for lack of memory.
+    // The result is never S1 (Device), because a disk of bytes fails only if memory is refused.
     ensures device { result ≢ 301 }
 {
     *answer = format_on(alloc, disk, plan, text);

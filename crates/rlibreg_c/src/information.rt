@@ -22,7 +22,7 @@ pub extern "C" fn rlibreg_info(
     ensures left { result ≢ 0 → information.new ≡ information.old }
     ensures status { answer.new.status ≡ result }
 
-    // The result is never S1 (Device): a disk of bytes fails only for lack of memory.
+    // The result is never S1 (Device), because a disk of bytes fails only if memory is refused.
     ensures device { result ≢ 301 }
 {
     *answer = info_on(alloc, disk, information, text);

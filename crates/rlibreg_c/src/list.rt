@@ -6,10 +6,10 @@ ghost use Rattle.c_answers.specs.Listing.{IsListingOf};
 use c_answers::{Answer, EntryPlace, list_on};
 use std::alloc::Global;
 
-/// Lists the libraries and the preloads of the registry that the sectors of `disk` hold. `entries`
-/// receives the libraries in the order of their installation, and then the preloads in their order.
-/// `names` receives the names of both in a row, each with a byte 0 after it. If one of these two
-/// buffers is too small, the answer has the sizes that both need.
+/// Lists the libraries and the preloads of the registry that the sectors of `disk` hold. Puts the
+/// libraries in the order of their installation, and then the preloads in their order, into
+/// `entries`, and their names, each followed by a byte 0, into `names`. If one of these two buffers
+/// is too small, returns the sizes that are needed for both buffers.
 #[unsafe(no_mangle)]
 pub extern "C" fn rlibreg_list(
     alloc: Global,
@@ -24,7 +24,7 @@ pub extern "C" fn rlibreg_list(
     ensures answered { IsListAnswered disk.now entries.new names.new text.new answer.new result }
     ensures status { answer.new.status ≡ result }
 
-    // The result is never S1 (Device): a disk of bytes fails only for lack of memory.
+    // The result is never S1 (Device), because a disk of bytes fails only if memory is refused.
     ensures device { result ≢ 301 }
 {
     *answer = list_on(alloc, disk, entries, names, text);

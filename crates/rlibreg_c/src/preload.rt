@@ -8,7 +8,7 @@ use c_answers::{Answer, plan_preloads};
 use std::alloc::Global;
 
 /// Plans to set the preloads. `names` has the names of the new preloads in their new order, each
-/// with a byte 0 after it.
+/// followed by a byte 0.
 #[unsafe(no_mangle)]
 pub extern "C" fn rlibreg_plan_preload(
     alloc: Global,
@@ -25,7 +25,7 @@ pub extern "C" fn rlibreg_plan_preload(
     ensures left { IsLeft plan.old plan.new result }
     ensures status { answer.new.status ≡ result }
 
-    // The result is never S1 (Device): a disk of bytes fails only for lack of memory.
+    // The result is never S1 (Device), because a disk of bytes fails only if memory is refused.
     ensures device { result ≢ 301 }
 {
     *answer = plan_preloads(alloc, disk, names, plan, text);

@@ -1,14 +1,14 @@
-// Reports what the symbols of a program and its libraries are bound to.
+// Reports the bindings of the symbols of a program and its libraries.
 ghost use Rattle.std.specs.Prelude.{◌≡◌, ◌≢◌};
 ghost use Rattle.c_answers.specs.Bindings.{IsBindingsAnswered, IsBindingsOf, TellsText};
 
 use c_answers::{Answer, bindings_on};
 use std::alloc::Global;
 
-/// Reports as a text what the symbols of a program and its libraries are bound to, with the
-/// registry that the sectors of `disk` hold. If libraries are missing, the text states instead
-/// which libraries were found and which are missing. The status is the one that `rlibreg_bind`
-/// returns at this base. There is a text with the statuses 0, B3 (Missing) and B5 (Undefined).
+/// Reports, as a text, the bindings of the symbols of a program and its libraries, with the
+/// registry that the sectors of `disk` hold. If libraries are missing, the text is about the found
+/// and the missing libraries instead. The status is the one that `rlibreg_bind` returns at this
+/// base. There is a text with the statuses 0, B3 (Missing) and B5 (Undefined).
 #[unsafe(no_mangle)]
 pub extern "C" fn rlibreg_bindings(
     alloc: Global,
@@ -27,7 +27,7 @@ pub extern "C" fn rlibreg_bindings(
     ensures left { result ≢ 0 → result ≢ 103 → result ≢ 105 → bytes.new ≡ bytes.old }
     ensures status { answer.new.status ≡ result }
 
-    // The result is never S1 (Device): a disk of bytes fails only for lack of memory.
+    // The result is never S1 (Device), because a disk of bytes fails only if memory is refused.
     ensures device { result ≢ 301 }
 {
     *answer = bindings_on(alloc, disk, program, base, bytes, text);

@@ -28,7 +28,7 @@ pub extern "C" fn rlibreg_plan_update(
     ensures left { IsLeft plan.old plan.new result }
     ensures status { answer.new.status ≡ result }
 
-    // The result is never S1 (Device): a disk of bytes fails only for lack of memory.
+    // The result is never S1 (Device), because a disk of bytes fails only if memory is refused.
     ensures device { result ≢ 301 }
 {
     *answer = plan_update(alloc, disk, changes, bytes, plan, text);

@@ -1,6 +1,6 @@
-//! The program `rlibreg-tool`: reports what the disk of a registry has, returns a library's bytes,
-//! returns a script that makes the registry again, repairs a registry with damaged libraries, and
-//! makes several changes at once.
+//! The program `rlibreg-tool`: reports the contents of a registry's disk, returns a library's
+//! bytes, writes a script that makes the same registry again, repairs a registry with damaged
+//! libraries, and makes several changes at once.
 #![tactic(auto)]
 
 use program_parts::{StandardStreams, cannot_hold, read_arguments};

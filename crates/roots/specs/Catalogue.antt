@@ -1,4 +1,4 @@
--- A catalogue: which catalogues can be encoded, and the sector that encodes a catalogue.
+-- A catalogue: the condition for encoding it, and the sector that encodes it.
 use Rattle.std.specs.Prelude.{◌≡◌, ℕ, ◌-◌, ◌<◌, ◌≤◌, List, ◌++◌, length, take, codes, All}
 use Rattle.std.specs.Int.{w16, w32, to_le_bytes}
 use Rattle.extents.specs.Limits.{root_sectors, most_sectors}
@@ -16,9 +16,9 @@ catalogue_bytes catalogue =
     ++ numbers w32 catalogue.entry_sectors  -- 16
     ++ zeros 240  -- 272
 
--- The limits of the fields: a catalogue can be encoded if and only if it keeps to these limits. A catalogue
--- lists at least one entry. It doesn't name its disk, so the sectors that it lists may be any sectors of
--- the largest disk.
+-- The limits of the fields: a catalogue can be encoded if and only if it keeps to these limits. A
+-- catalogue lists at least one entry. It doesn't have the size of its disk, so it may list any
+-- sectors of the largest disk.
 pub record CatalogueHasSpelling (catalogue : Catalogue) : Type 0 where
   pub some : 1 ≤ catalogue.count
   pub sectors : ListsSectors most_catalogue_entries catalogue.count most_sectors catalogue.entry_sectors
@@ -32,15 +32,15 @@ pub record SpellsCatalogue (bytes : List ℕ) (catalogue : Catalogue) : Type 0 w
 abbrev pub catalogued_sectors : Catalogue → List ℕ
 catalogued_sectors catalogue = take catalogue.count catalogue.entry_sectors
 
--- the catalogue that lists these sectors, with zeros in the places after them
+-- the catalogue that lists these sectors; the places after them are zero
 abbrev pub catalogue_of_sectors : List ℕ → Catalogue
 catalogue_of_sectors sectors = record {
   count = length sectors;
   entry_sectors = sectors ++ zeros (most_catalogue_entries - length sectors);
 }
 
--- The sectors can be listed by one catalogue: there are 1 to 64, they lie after the roots on the largest disk, and none
--- occurs twice.
+-- One catalogue can list these sectors: there are 1 to 64, they lie after the roots on the largest
+-- disk, and no sector occurs twice.
 pub record SectorsFit (sectors : List ℕ) : Type 0 where
   pub some : 1 ≤ length sectors
   pub few : length sectors ≤ most_catalogue_entries

@@ -1,4 +1,4 @@
--- Which root is current: the choice between the two slots, and the condition on the two sectors.
+-- The current root: the choice between the two slots, and the condition on the two sectors.
 use Rattle.std.specs.Prelude.{◌≡◌, ◌⊎◌, ℕ, ◌+◌, ◌%◌, List, Bool, true, false}
 use Rattle.std.specs.Prelude.{Result, Ok, Err, ◌&&◌, ◌==◌, nat_lt, if◌then◌else◌}
 use Rattle.std.specs.Int.{abs_diff}
@@ -12,11 +12,11 @@ use Rattle.roots.specs.declared.choice.ChooseRefusal.{ChooseRefusal}
 use Rattle.roots.specs.declared.choice.ChooseRefusal.TheVariants.{NotFormatted, Damaged}
 use Rattle.roots.specs.Root.{version_of, LacksMagic, SpellsRoot}
 
--- the sector that holds the root of a generation: 0 for even generations, 1 for odd ones
+-- the root sector for a generation: 0 for even generations, 1 for odd ones
 abbrev pub slot_of : ℕ → ℕ
 slot_of generation = generation % root_sectors
 
--- slot 0 has an even generation and slot 1 an odd one, and they differ by one
+-- the generation `even` belongs to slot 0 and `odd` belongs to slot 1, and they differ by one
 abbrev pub are_neighbours : ℕ → ℕ → Bool
 are_neighbours even odd = slot_of even == 0 && slot_of odd == 1 && abs_diff even odd == 1
 
@@ -28,13 +28,14 @@ later a b = if nat_lt a.generation b.generation then b else a
 abbrev pub earlier : Root → Root → Root
 earlier a b = if nat_lt a.generation b.generation then a else b
 
--- whether a later root's version may follow an earlier one's: version 1 doesn't follow version 2
+-- a root of version `newer` may follow a root of version `older`: only version 1 doesn't follow
+-- version 2
 abbrev pub keeps_version : Version → Version → Bool
 keeps_version Two One = false
 keeps_version older newer = true
 
--- whether two roots, each in its sector, are one commit apart, and the later root's version may follow the earlier
--- root's
+-- the two roots, each in its sector, are one commit apart, and the version of the later root may
+-- follow that of the earlier one
 abbrev pub are_in_row : Root → Root → Bool
 are_in_row even odd =
     are_neighbours even.generation odd.generation && keeps_version (version_of (earlier even odd)) (version_of (later even odd))
@@ -56,8 +57,8 @@ pub record AreSuccessive (even odd : ℕ) : Type 0 where
 abbrev pub KeepsVersion : Root → Root → Type 0
 KeepsVersion older newer = version_of newer ≡ One → version_of older ≡ One
 
--- the root that is current in sectors 0 and 1: a root of generation 0 if the other sector has no magic,
--- or the later of two roots that are one commit apart
+-- `root` is current in sectors 0 and 1: it has generation 0, and the other sector has no magic; or
+-- it is the later of two roots that are one commit apart
 abbrev pub IsCurrent : List ℕ → List ℕ → Root → Type 0
 IsCurrent sector0 sector1 root =
     (SpellsRoot sector0 root × (root.generation ≡ 0) × LacksMagic sector1)

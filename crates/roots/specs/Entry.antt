@@ -1,4 +1,4 @@
--- An entry: which entries can be encoded, and the sector that encodes an entry.
+-- An entry: the condition for encoding it, and the sector that encodes it.
 use Rattle.std.specs.Prelude.{◌≡◌, ◌≢◌, ℕ, ◌+◌, ◌-◌, ◌≤◌, List, ◌++◌, length, take, replicate, codes, sum_by}
 use Rattle.std.specs.List.{flat_map}
 use Rattle.std.specs.Int.{w16, w32, to_le_bytes, IsInRange, div_ceil}
@@ -13,7 +13,7 @@ use Rattle.roots.specs.Fields.{zeros, UsesFirst}
 abbrev pub IsNameByte : ℕ → Type 0
 IsNameByte byte = IsInRange 0x21 0x7e byte × (byte ≢ 0x2f)
 
--- a run of sectors that may hold a file's bytes, on the largest disk
+-- a run of sectors that can hold a file's bytes on the largest disk
 pub record IsDataExtent (extent : Extent) : Type 0 where
   pub low : root_sectors ≤ extent.start
   pub filled : 1 ≤ extent.count
@@ -43,8 +43,8 @@ pub record NameFits (entry : Entry) : Type 0 where
   pub some : 1 ≤ entry.name_length
   pub listed : UsesFirst most_name_bytes entry.name_length IsNameByte 0 entry.name
 
--- the extents fit into their places, and have exactly as many sectors as the file takes; the file may use
--- only a part of the last sector
+-- the extents fit into their places, and have exactly as many sectors as the file takes; the file
+-- needn't fill the last sector
 pub record ExtentsFit (entry : Entry) : Type 0 where
   pub some : 1 ≤ entry.extent_count
   pub listed : UsesFirst most_extents entry.extent_count IsDataExtent no_extent entry.extents
@@ -69,7 +69,7 @@ name_of entry = take entry.name_length entry.name
 abbrev pub extents_of : Entry → List Extent
 extents_of entry = take entry.extent_count entry.extents
 
--- the entry of a file, with zeros in the places after the name and after the extents
+-- the entry of a file; the places after the name and after the extents are zero
 abbrev pub entry_of_file : List ℕ → ℕ → List Extent → Entry
 entry_of_file name file_length extents = record {
   file_length = file_length;

@@ -13,16 +13,16 @@ zeros n = replicate n 0
 abbrev pub numbers : Width → List ℕ → List ℕ
 numbers w ns = flat_map (to_le_bytes w) ns
 
--- The first `count` of `places` places are used, and each value in them fits. The other places hold
--- `unused`.
+-- The first `count` of `places` places are used, and the value in each of them meets `Fits`. The
+-- other places hold `unused`.
 pub record UsesFirst {A : Type 0} (places count : ℕ) (Fits : A → Type 0) (unused : A) (values : List A) : Type 0 where
   pub size : length values ≡ places
   pub room : count ≤ places
   pub used : All Fits (take count values)
   pub rest : All (λ value. value ≡ unused) (drop count values)
 
--- A list of `count` sectors in `places` places. The sectors lie after the root sectors and before `end`, and none
--- occurs twice.
+-- A list of `count` sectors in `places` places. The sectors lie after the root sectors and before
+-- `end`, and no sector occurs twice.
 pub record ListsSectors (places count end : ℕ) (sectors : List ℕ) : Type 0 where
   pub listed : UsesFirst places count (λ sector. (root_sectors ≤ sector) × (sector < end)) 0 sectors
   pub distinct : AreDistinct (take count sectors)

@@ -2,7 +2,8 @@
 -- of layouts and of states.
 use Rattle.std.specs.Prelude.{ℕ}
 
--- the maximum number of entries that a root of version 1 lists, and so the maximum number of libraries that it counts
+-- the maximum number of entries that a root of version 1 lists, which is also the maximum number of
+-- libraries that it counts
 abbrev pub most_root_entries : ℕ
 most_root_entries = 100
 

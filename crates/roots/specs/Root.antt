@@ -1,4 +1,4 @@
--- A root, of version 1 or 2: which roots can be encoded, and the sector that encodes a root.
+-- A root of version 1 or 2: the condition for encoding it, and the sector that encodes it.
 use Rattle.std.specs.Prelude.{◌≡◌, ℕ, ◌-◌, ◌<◌, ◌≤◌, ◌^◌, List, [], ◌∷◌, ◌++◌, length, take, codes, All, Contains}
 use Rattle.std.specs.Int.{w16, w32, w64, to_le_bytes, IsInRange}
 use Rattle.extents.specs.Limits.{root_sectors, most_sectors}
@@ -39,7 +39,7 @@ abbrev pub magic_of : EntryList → List ℕ
 magic_of (InRoot sectors) = magic_1
 magic_of (InCatalogues count sectors) = magic_2
 
--- the sector begins as a root sector of some version does, whether or not it encodes a root
+-- the sector begins with the magic of a version; it may encode a root or not
 abbrev pub HasMagic : List ℕ → Type 0
 HasMagic bytes = Contains root_magics (take 8 bytes)
 
@@ -47,7 +47,7 @@ HasMagic bytes = Contains root_magics (take 8 bytes)
 abbrev pub LacksMagic : List ℕ → Type 0
 LacksMagic bytes = ¬ HasMagic bytes
 
--- a list, encoded in the last 456 bytes of a root's sector
+-- the last 456 bytes of a root's sector, which encode the list
 abbrev pub list_bytes : EntryList → List ℕ
 list_bytes (InRoot sectors) =
     zeros 8  -- at byte 56
@@ -70,7 +70,8 @@ root_bytes root =
     ++ numbers w16 root.preloads  -- 24
     ++ list_bytes root.list  -- 56
 
--- the preloads fit into their places: each is a position in the list of libraries, and none occurs twice
+-- the preloads fit into their places: each of them is a position in the list of libraries, and no
+-- position occurs twice
 pub record PreloadsFit (root : Root) : Type 0 where
   pub listed : UsesFirst most_preloads root.preload_count (λ position. position < root.library_count) 0 root.preloads
   pub distinct : AreDistinct (take root.preload_count root.preloads)
@@ -82,8 +83,9 @@ pub record CatalogueListFits (libraries disk count : ℕ) (sectors : List ℕ) :
   pub enough : count ≡ catalogues_for libraries
   pub listed : ListsSectors most_catalogues count disk sectors
 
--- the sectors that a root of `libraries` libraries lists fit into their places, on a disk of `disk` sectors: in version
--- 1 those of the libraries' entries, in version 2 those of the catalogues
+-- the sectors that a root of `libraries` libraries lists fit into their places, on a disk of `disk`
+-- sectors; in version 1 these are the sectors of the libraries' entries, and in version 2 those of
+-- the catalogues
 abbrev pub ListFits : ℕ → ℕ → EntryList → Type 0
 ListFits libraries disk (InRoot sectors) = ListsSectors most_root_entries libraries disk sectors
 ListFits libraries disk (InCatalogues count sectors) = CatalogueListFits libraries disk count sectors
@@ -105,7 +107,8 @@ abbrev pub used_places : ℕ → EntryList → List ℕ
 used_places libraries (InRoot sectors) = take libraries sectors
 used_places libraries (InCatalogues count sectors) = take count sectors
 
--- the sectors that a root itself lists: in version 1 those of the entries, in version 2 those of the catalogues
+-- the sectors that a root itself lists: in version 1 those of the entries, and in version 2 those
+-- of the catalogues
 abbrev pub listed_sectors : Root → List ℕ
 listed_sectors root = used_places root.library_count root.list
 
@@ -113,7 +116,8 @@ listed_sectors root = used_places root.library_count root.list
 abbrev pub listed_preloads : Root → List ℕ
 listed_preloads root = take root.preload_count root.preloads
 
--- the root of `libraries` libraries with this list and these preloads, and zeros in the places after the preloads
+-- the root of `libraries` libraries with this list and these preloads; the places after the
+-- preloads are zero
 abbrev pub root_with : ℕ → ℕ → ℕ → EntryList → List ℕ → Root
 root_with generation sectors libraries list preloads = record {
   generation = generation;
@@ -134,7 +138,7 @@ abbrev pub root_over_catalogues : ℕ → ℕ → ℕ → List ℕ → List ℕ 
 root_over_catalogues generation sectors libraries catalogues preloads =
     root_with generation sectors libraries (InCatalogues (length catalogues) (catalogues ++ zeros (most_catalogues - length catalogues))) preloads
 
--- With these parameters, a root of version 2 can be encoded.
+-- A root of version 2 with these parameters can be encoded.
 pub record CataloguesFit (generation sectors libraries : ℕ) (catalogues preloads : List ℕ) : Type 0 where
   pub generation_fits : generation < 2 ^ 64
   pub sectors_fit : IsInRange least_sectors most_sectors sectors

@@ -9,8 +9,8 @@ use crate::limits::MOST_CATALOGUE_ENTRIES;
 use crate::lists::{lists_sectors, placed};
 use extents::MOST_SECTORS;
 
-/// A part of the list of libraries, given by the sectors of their entries. In a catalogue that can
-/// be encoded, the unused places of `entry_sectors` are zero.
+/// A part of the list of libraries, as the sectors of their entries. If the catalogue can be
+/// encoded, the unused places of `entry_sectors` are zero.
 #[derive(Clone, Copy, PartialEq, Eq)]
 pub struct Catalogue {
     /// The number of entries that the catalogue lists.
@@ -41,8 +41,7 @@ impl Catalogue {
     }
 
     /// Returns whether each field is within the format's limits, so that a sector can encode this
-    /// catalogue. The call compares each sector with the sectors before it: at most 2,016
-    /// comparisons.
+    /// catalogue. Compares each sector with the sectors before it: at most 2,016 comparisons.
     pub fn has_spelling(&self) -> bool
         ensures { IsTrue result ↔ CatalogueHasSpelling self.now }
     {

@@ -12,7 +12,8 @@ use sector_disk::SECTOR_BYTES;
 
 const MAGIC: [u8; 4] = *b"LIBC";
 
-/// Returns the sector that encodes the catalogue. `Catalogue::has_spelling` tests the condition.
+/// Returns the sector that encodes the catalogue. The catalogue must be one that can be encoded:
+/// `Catalogue::has_spelling` tests this.
 pub fn encode_catalogue(catalogue: &Catalogue) -> [u8; SECTOR_BYTES]
     requires { CatalogueHasSpelling catalogue.now }
     ensures spelling { result ≡ catalogue_bytes catalogue.now }
@@ -28,12 +29,12 @@ pub fn encode_catalogue(catalogue: &Catalogue) -> [u8; SECTOR_BYTES]
     sector.finish()
 }
 
-/// Returns the catalogue that a sector encodes, or None if it encodes none.
+/// Returns the catalogue that a sector encodes, or `None` if it encodes none.
 pub fn decode_catalogue(bytes: &[u8; SECTOR_BYTES]) -> Option<Catalogue>
     // The sector encodes the returned catalogue.
     ensures read { IfSome result (λ catalogue. SpellsCatalogue bytes.now catalogue) }
 
-    // If the sector encodes a catalogue, this catalogue is returned.
+    // If the sector encodes a catalogue, the call returns this catalogue.
     ensures spelt { (catalogue : Catalogue) → SpellsCatalogue bytes.now catalogue
         → result ≡ Some catalogue }
 {
@@ -48,7 +49,7 @@ fn spells(bytes: &[u8; SECTOR_BYTES], catalogue: &Catalogue) -> bool
     catalogue.has_spelling() && *bytes == encode_catalogue(catalogue)
 }
 
-// Returns the contents of the fields, within their limits or not.
+// Returns the contents of the fields, without testing their limits.
 #[tactic(auto, unfolding(crate::specs::inside::Reading::catalogue_of))]
 fn catalogue_fields(bytes: &[u8; SECTOR_BYTES]) -> Catalogue
     ensures { result ≡ catalogue_of bytes.now }

@@ -12,16 +12,16 @@ use crate::slot::Slot;
 use crate::version::Version;
 use extents::ROOT_SECTORS;
 
-/// Why no root is current.
+/// The reason why no root is current.
 #[derive(Clone, Copy, Debug, PartialEq, Eq)]
 pub enum ChooseRefusal {
     /// Both slots are empty.
     NotFormatted,
-    /// No stop of a registry leaves these slots.
+    /// A stop of a registry never leaves these slots.
     Damaged,
 }
 
-/// Returns the sector that holds the root of a generation: 0 for even generations, 1 for odd ones.
+/// Returns the root sector for a generation: 0 for even generations, 1 for odd ones.
 pub fn slot_of(generation: u64) -> u32
     ensures value { result ≡ slot_of generation }
     ensures low { result < root_sectors }
@@ -33,18 +33,20 @@ pub fn slot_of(generation: u64) -> u32
 pub fn choose(slot0: Slot, slot1: Slot) -> Result<Root, ChooseRefusal>
     ensures table { result ≡ chosen slot0 slot1 }
 
-    // For any two sectors from which these slots were read, the answer is the current root.
+    // If the slots were read from two sectors, the returned root is the current root of these
+    // sectors.
     ensures ok { (sector0 sector1 : List ℕ) → IsSlotOf sector0 slot0 → IsSlotOf sector1 slot1
         → (root : Root) → (result ≡ Ok root) ↔ IsCurrent sector0 sector1 root }
 
-    // The answer is NotFormatted if neither sector has the magic.
+    // The call refuses with NotFormatted if neither sector has a magic.
     ensures refused { (sector0 sector1 : List ℕ) → IsSlotOf sector0 slot0 → IsSlotOf sector1 slot1
         → (result ≡ Err ChooseRefusal.NotFormatted) ↔ (LacksMagic sector0 × LacksMagic sector1) }
 {
     by_table(slot0, slot1)
 }
 
-// Returns the result by the table `chosen`. The clauses about the sectors follow from this table.
+// Returns the result that the table `chosen` has. The clauses about the sectors follow from this
+// table.
 fn by_table(slot0: Slot, slot1: Slot) -> Result<Root, ChooseRefusal>
     ensures { result ≡ chosen slot0 slot1 }
 {
@@ -74,8 +76,8 @@ fn later(even: Root, odd: Root) -> Result<Root, ChooseRefusal>
     }
 }
 
-// Returns the newer of two roots that are one commit apart. A root of version 1 doesn't follow one
-// of version 2.
+// Returns the newer of two roots, which are one commit apart. Refuses with Damaged if a root of
+// version 1 follows one of version 2.
 fn after(older: Root, newer: Root) -> Result<Root, ChooseRefusal>
     ensures { result ≡ (if keeps_version (version_of older) (version_of newer)
         then Ok newer else Err ChooseRefusal.Damaged) }

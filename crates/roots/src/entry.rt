@@ -12,8 +12,8 @@ use crate::lists::placed;
 use extents::{Extent, MOST_EXTENTS, MOST_SECTORS, ROOT_SECTORS};
 use sector_disk::SECTOR_BYTES;
 
-/// A library's entry: its name, and the place of its file. In an entry that can be encoded, the
-/// unused places of `name` and of `extents` are zero.
+/// A library's entry: its name, and the place of its file. If the entry can be encoded, the unused
+/// places of `name` and of `extents` are zero.
 #[derive(Clone, Copy, PartialEq, Eq)]
 pub struct Entry {
     /// The length of the file in bytes.

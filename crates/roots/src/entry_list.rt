@@ -7,8 +7,8 @@ use crate::limits::{MOST_CATALOGUES, MOST_LIBRARIES, MOST_ROOT_ENTRIES, catalogu
 use crate::lists::lists_sectors;
 use crate::version::Version;
 
-/// The list of a root, which leads to the entries of the libraries. Each version of the disk has
-/// its own list and its own magic.
+/// The list of a root, by which the entries of the libraries are found. Each version of the disk
+/// has its own list and its own magic.
 #[derive(Clone, Copy, PartialEq, Eq)]
 pub enum EntryList {
     /// Version 1: the root has the sectors of the entries, in the order of installation.

@@ -13,7 +13,8 @@ use sector_disk::SECTOR_BYTES;
 
 const MAGIC: [u8; 4] = *b"LIBE";
 
-/// Returns the sector that encodes the entry. `Entry::has_spelling` tests the condition.
+/// Returns the sector that encodes the entry. The entry must be one that can be encoded:
+/// `Entry::has_spelling` tests this.
 pub fn encode_entry(entry: &Entry) -> [u8; SECTOR_BYTES]
     requires { EntryHasSpelling entry.now }
     ensures spelling { result ≡ entry_bytes entry.now }
@@ -32,12 +33,12 @@ pub fn encode_entry(entry: &Entry) -> [u8; SECTOR_BYTES]
     sector.finish()
 }
 
-/// Returns the entry that a sector encodes, or None if it encodes none.
+/// Returns the entry that a sector encodes, or `None` if it encodes none.
 pub fn decode_entry(bytes: &[u8; SECTOR_BYTES]) -> Option<Entry>
     // The sector encodes the returned entry.
     ensures read { IfSome result (λ entry. SpellsEntry bytes.now entry) }
 
-    // If the sector encodes an entry, this entry is returned.
+    // If the sector encodes an entry, the call returns this entry.
     ensures spelt { (entry : Entry) → SpellsEntry bytes.now entry → result ≡ Some entry }
 {
     let entry = entry_fields(bytes);
@@ -51,7 +52,7 @@ fn spells(bytes: &[u8; SECTOR_BYTES], entry: &Entry) -> bool
     entry.has_spelling() && *bytes == encode_entry(entry)
 }
 
-// Returns the contents of the fields, within their limits or not.
+// Returns the contents of the fields, without testing their limits.
 #[tactic(auto, unfolding(crate::specs::inside::Reading::entry_of))]
 fn entry_fields(bytes: &[u8; SECTOR_BYTES]) -> Entry
     ensures { result ≡ entry_of bytes.now }

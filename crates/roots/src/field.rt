@@ -1,4 +1,4 @@
-//! Values of a fixed number of bytes, and arrays of them, at their places in a sector.
+//! Values of a fixed number of bytes, and arrays of such values, at their places in a sector.
 
 ghost use Rattle.std.specs.Prelude.{◌≡◌, ℕ, List, ◌+◌, ◌*◌, ◌≤◌, ◌++◌, length, drop};
 ghost use Rattle.std.specs.Int.{w16, w32, w64, to_le_bytes, from_le_bytes};
@@ -23,12 +23,12 @@ pub(crate) trait Field: Copy + Default {
     // The bytes that encode a value.
     ghost spell: { Self → List ℕ };
 
-    /// Returns the value whose bytes are in the sector from `at` on.
+    /// Returns the value whose bytes begin at offset `at` of the sector.
     fn read_at(sector: &[u8; SECTOR_BYTES], at: usize) -> Self
         requires { at + BYTES ≤ sector_bytes }
         ensures { result ≡ read (drop at sector.now) };
 
-    /// Writes the value's bytes after the fields that are written already.
+    /// Appends the value's bytes to the fields that have already been written.
     fn put_to(self, sector: &mut SectorWriter)
         requires { length sector.old + BYTES ≤ sector_bytes }
         ensures fields { sector.new ≡ sector.old ++ spell self }
@@ -120,7 +120,7 @@ impl Field for Extent {
     }
 }
 
-/// Returns the values whose bytes are in the sector from `at` on, one after the other.
+/// Returns `N` values, one after the other, whose bytes begin at offset `at` of the sector.
 pub(crate) fn values_at<T: Field, const N: usize>(sector: &[u8; SECTOR_BYTES], at: usize) -> [T; N]
     requires { at + T.BYTES * N ≤ sector_bytes }
     ensures { result ≡ values_at T.read T.BYTES N at sector.now }

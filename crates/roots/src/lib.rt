@@ -1,10 +1,10 @@
 //! The two root sectors, the entry sectors and the catalogue sectors of a registry's disk.
 //!
-//! After a stop, the two root sectors decide which state is current: `choose` returns the root of
-//! this state. A root of version 1 lists the sectors of the entries. A root of version 2 lists the
-//! sectors of catalogues, which list the sectors of the entries. Each entry has a library's name,
-//! its file's length, and the extents that hold the file. A value is encoded as a sector in exactly
-//! one way, and a sector is decoded only if it encodes a value. No call allocates memory.
+//! After a stop, the two root sectors determine which state is current: `choose` returns the root
+//! of this state. A root of version 1 lists the sectors of the entries. A root of version 2 lists
+//! the sectors of catalogues, which list the sectors of the entries. Each entry has a library's
+//! name, its file's length, and the extents that hold the file. Each value has exactly one encoding
+//! as a sector, and a sector is decoded only if it encodes a value. No call allocates memory.
 #![tactic(auto)]
 
 mod catalogue;

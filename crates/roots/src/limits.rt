@@ -4,7 +4,7 @@ ghost use Rattle.states.specs.Cost.{catalogues_for};
 /// The maximum number of libraries that a root of version 2 counts.
 pub const MOST_LIBRARIES: usize = 2_048;
 
-/// The maximum number of entries that a root of version 1 lists, and so the maximum number of
+/// The maximum number of entries that a root of version 1 lists. This is also the maximum number of
 /// libraries that it counts.
 pub const MOST_ROOT_ENTRIES: usize = 100;
 

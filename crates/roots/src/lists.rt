@@ -27,8 +27,8 @@ pub(crate) fn placed<T: Copy, const N: usize>(values: &[T], unused: T) -> [T; N]
     places
 }
 
-/// Returns whether the first `count` places hold distinct sectors after the roots and before `end`,
-/// and the other places are zero.
+/// Returns whether the first `count` places have different sectors, which lie after the roots and
+/// before `end`, and all other places are zero.
 pub(crate) fn lists_sectors(places: &[u32], count: u16, end: u32) -> bool
     ensures { IsTrue result ↔ ListsSectors (length places.now) count end places.now }
 {

@@ -12,11 +12,11 @@ use crate::lists::{are_distinct, placed};
 use crate::version::Version;
 use states::{MOST_PRELOADS, is_geometry};
 
-/// The root of a registry, as one of the two root sectors holds it. In a root that can be encoded,
-/// the unused places of its lists are zero.
+/// The root of a registry, which one of the two root sectors holds. If the root can be encoded, the
+/// unused places of its lists are zero.
 #[derive(Clone, Copy, PartialEq, Eq)]
 pub struct Root {
-    /// The number of commits that were made since the disk was formatted.
+    /// The number of commits since the disk was formatted.
     pub generation: u64,
     /// The disk's size in sectors.
     pub sectors: u32,
@@ -26,13 +26,15 @@ pub struct Root {
     pub preload_count: u16,
     /// The positions of the preloads in the list of libraries, in the order of the preloads.
     pub preloads: [u16; MOST_PRELOADS],
-    /// The list that leads to the libraries' entries. Its form depends on the version of the disk.
+    /// The list by which the libraries' entries are found. Its form depends on the version of the
+    /// disk.
     pub list: EntryList,
 }
 
 impl Root {
     /// Returns the root of version 1 with the generation `generation`, on a disk of `sectors`
-    /// sectors. It lists the sectors `entries` of entries, and the positions `preloads`.
+    /// sectors. The root lists the entry sectors `entries`, and the preloads at the positions
+    /// `preloads`.
     pub fn over_entries(generation: u64, sectors: u32, entries: &[u32], preloads: &[u16]) -> Root
         requires entries { length entries.now ≤ most_root_entries }
         requires preloads { length preloads.now ≤ most_preloads }
@@ -51,8 +53,8 @@ impl Root {
     }
 
     /// Returns the root of version 2 with the generation `generation`, on a disk of `sectors`
-    /// sectors. It counts `library_count` libraries, and lists the sectors `catalogues` of
-    /// catalogues and the positions `preloads`.
+    /// sectors. The root counts `library_count` libraries, and lists the catalogue sectors
+    /// `catalogues` and the preloads at the positions `preloads`.
     pub fn over_catalogues(
         generation: u64,
         sectors: u32,
@@ -87,8 +89,8 @@ impl Root {
         self.list.version()
     }
 
-    /// Returns the sectors that the root itself lists, in the order of installation. In version 1
-    /// these are the sectors of the libraries' entries, and in version 2 those of the catalogues.
+    /// Returns the sectors that the root itself lists, in the order of the list. In version 1 these
+    /// are the sectors of the libraries' entries, and in version 2 those of the catalogues.
     pub fn listed_sectors(&self) -> &[u32]
         requires { RootHasSpelling self.now }
         ensures { result.now ≡ listed_sectors self.now }
@@ -109,13 +111,12 @@ impl Root {
     }
 
     /// Returns whether each field is within the format's limits, so that a sector can encode this
-    /// root. The call compares each listed sector with the sectors before it: at most 4,950
-    /// comparisons.
+    /// root. Compares each listed sector with the sectors before it: at most 4,950 comparisons.
     pub fn has_spelling(&self) -> bool
         ensures { IsTrue result ↔ RootHasSpelling self.now }
     {
-        // Each u64 is a generation, so there is nothing to test. The field is read only so that the
-        // proof knows that it is a u64.
+        // Every u64 can be a generation, so no test is needed. The field is read only to let the
+        // proof know that it is a u64.
         let _generation = self.generation;
         is_geometry(self.sectors)
             && self.preloads_fit()

@@ -15,14 +15,15 @@ use crate::slot::Slot;
 use crate::writer::SectorWriter;
 use sector_disk::SECTOR_BYTES;
 
-// The first bytes of root sectors, for each version.
+// The first bytes of the root sectors of each version.
 const MAGIC_1: [u8; 8] = *b"RLIBREG1";
 
 const MAGIC_2: [u8; 8] = *b"RLIBREG2";
 
 const MAGICS: [[u8; 8]; 2] = [MAGIC_1, MAGIC_2];
 
-/// Returns the sector that encodes the root. `Root::has_spelling` tests the condition.
+/// Returns the sector that encodes the root. The root must be one that can be encoded:
+/// `Root::has_spelling` tests this.
 pub fn encode_root(root: &Root) -> [u8; SECTOR_BYTES]
     requires { RootHasSpelling root.now }
     ensures spelling { result ≡ root_bytes root.now }
@@ -51,7 +52,7 @@ fn magic_of(list: &EntryList) -> [u8; 8]
     }
 }
 
-// Writes the list after the fields that all versions have.
+// Appends the list to the fields that all versions have.
 fn put_list(sector: &mut SectorWriter, list: &EntryList)
     requires { length sector.old ≡ 56 }
     ensures fields { sector.new ≡ sector.old ++ list_bytes list.now }
@@ -72,13 +73,13 @@ fn put_list(sector: &mut SectorWriter, list: &EntryList)
     }
 }
 
-/// Returns the slot of a root sector. The slot has a root if the sector is exactly the sector that
+/// Returns the slot of a root sector. The slot has a root if the sector is exactly the one that
 /// encodes this root.
 pub fn decode_root(bytes: &[u8; SECTOR_BYTES]) -> Slot
-    // The sector is read as this slot.
+    // The returned slot is that of the sector.
     ensures slot { IsSlotOf bytes.now result }
 
-    // If the sector encodes a root, this root is returned.
+    // If the sector encodes a root, the call returns this root.
     ensures spelt { (root : Root) → SpellsRoot bytes.now root → result ≡ Slot.Good root }
     ensures empty { LacksMagic bytes.now → result ≡ Slot.Empty }
 {
@@ -93,7 +94,7 @@ pub fn decode_root(bytes: &[u8; SECTOR_BYTES]) -> Slot
     }
 }
 
-// Returns whether the sector begins as a root of some version does.
+// Returns whether the sector begins with the magic of a version.
 fn has_magic(bytes: &[u8; SECTOR_BYTES]) -> bool
     ensures { IsTrue result ↔ HasMagic bytes.now }
 {
@@ -107,7 +108,7 @@ fn spells(bytes: &[u8; SECTOR_BYTES], root: &Root) -> bool
     root.has_spelling() && *bytes == encode_root(root)
 }
 
-// Returns the contents of the fields, within their limits or not.
+// Returns the contents of the fields, without testing their limits.
 #[tactic(auto, unfolding(crate::specs::inside::Reading::root_of))]
 fn root_fields(bytes: &[u8; SECTOR_BYTES]) -> Root
     ensures { result ≡ root_of bytes.now }
@@ -122,7 +123,7 @@ fn root_fields(bytes: &[u8; SECTOR_BYTES]) -> Root
     }
 }
 
-// Returns the contents of the list, which depend on the magic.
+// Returns the list in the sector. Its form depends on the magic.
 #[tactic(auto, unfolding(crate::specs::inside::Reading::list_of))]
 fn list_fields(bytes: &[u8; SECTOR_BYTES]) -> EntryList
     ensures { result ≡ list_of bytes.now }

@@ -3,7 +3,7 @@ use crate::root::Root;
 /// The contents of one of the two root sectors.
 #[derive(Clone, Copy, PartialEq, Eq)]
 pub enum Slot {
-    /// No root was written here: the sector has neither magic.
+    /// No root was written to this sector: it has neither magic.
     Empty,
     /// The sector encodes this root.
     Good(Root),

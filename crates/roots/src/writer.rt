@@ -9,7 +9,7 @@ use crate::field::Field;
 use sector_disk::SECTOR_BYTES;
 use std::marker::Model;
 
-/// The fields of a sector that are written so far. The bytes after them are zero.
+/// The fields of a sector that have been written so far. The bytes after them are zero.
 #[derive(Drop)]
 pub(crate) struct SectorWriter {
     bytes: [u8; SECTOR_BYTES],
@@ -55,7 +55,7 @@ impl SectorWriter {
         }
     }
 
-    /// Returns the sector: the fields, followed by zeros.
+    /// Returns the sector: its fields, followed by zeros.
     pub(crate) fn finish(self) -> [u8; SECTOR_BYTES]
         ensures { result ≡ self ++ zeros (sector_bytes - length self) }
     {

@@ -22,7 +22,7 @@ const TAIL: &[u8] =
 /// The names in `FRONT`, in their order.
 const LETTERS: &[u8] = b"abcdepfz";
 
-/// Returns an entry of the dynamic section whose value is a name of one letter. With tag 1 this is
+/// Returns an entry of the dynamic section whose value is a name of one letter. With tag 1 it is
 /// the name of a needed library, and with tag 14 the library's own name.
 pub fn named(tag: u64, letter: u8) -> [u8; 16] {
     let mut place = 1u64;
@@ -38,8 +38,8 @@ pub fn named(tag: u64, letter: u8) -> [u8; 16] {
     entry
 }
 
-/// Writes the size of the whole file and the size of its dynamic section into the program headers,
-/// both as the size in the file and as the size in memory.
+/// Writes the size of the whole file and the size of its dynamic section into the program headers.
+/// Each is both a size in the file and a size in memory.
 fn put_sizes(file: &mut [u8]) {
     let whole = file.len() as u64;
     let section = whole.saturating_sub(FRONT.len() as u64);
@@ -49,9 +49,9 @@ fn put_sizes(file: &mut [u8]) {
     put(file, 160, &section.to_le_bytes());
 }
 
-/// Makes a file that needs the libraries `needs`, whose names have one letter. The entry `entry`,
-/// which may be empty, follows the entries of these libraries. A file that is shorter than `size`
-/// bytes is padded with zeros to this size.
+/// Makes a file that needs the libraries `needs`, whose names have one letter. After the entries of
+/// these libraries comes the entry `entry`, which may be empty. If the file is shorter than `size`
+/// bytes, zeros are appended up to this size.
 pub fn needing_file(
     alloc: Global,
     needs: &[u8],

@@ -37,7 +37,7 @@ pub fn library(name: u8, version: u8) -> [u8; SIZE] {
     file
 }
 
-/// Returns the file of `library`, followed by zeros up to `size` bytes.
+/// Returns the file of `library`, with zeros appended up to `size` bytes.
 pub fn padded(alloc: Global, name: u8, version: u8, size: usize) -> Result<Vec<u8>, AllocError> {
     let mut file = vec![in alloc; 0; size]?;
     put(&mut file, 0, &library(name, version));

@@ -1,6 +1,6 @@
--- Levels of needed objects (gABI chapter 5, "Shared Object Dependencies": breadth first). Objects are identified by
--- numbers here. `needs` returns the objects that an object needs, in the order in which this object names the needed
--- objects.
+-- Levels of needed objects (gABI chapter 5, "Shared Object Dependencies": breadth first). Here,
+-- numbers identify objects. `needs` returns the objects that an object needs, in the order in which
+-- this object names them.
 use Rattle.std.specs.Prelude.{ℕ, zero, suc, ◌==◌, List, [], ◌∷◌, ◌++◌, Bool, not}
 use Rattle.std.specs.List.{list_any, filter, flat_map, concat}
 
@@ -17,12 +17,13 @@ first_occurrences (p ∷ ps) = p ∷ filter (λ q. not (q == p)) (first_occurren
 abbrev pub without : List ℕ → List ℕ → List ℕ
 without others ps = filter (λ p. not (is_among others p)) ps
 
--- The next level: the objects that the objects of `level` need, object by object, in the order in which each object
--- needs them, and each only once. Objects of the levels up to this one, which are in `earlier`, are left out.
+-- The next level: the objects that the objects of `level` need, without those in `earlier`, which
+-- has the objects of all levels up to `level`. They are in the order of the objects that need them,
+-- and then in the order in which each object needs them. Each occurs only once.
 unfoldable pub next_level : (ℕ → List ℕ) → List ℕ → List ℕ → List ℕ
 next_level needs earlier level = without earlier (first_occurrences (flat_map needs level))
 
--- the `n` levels after a level; `earlier` has the objects of the levels up to and including this one
+-- the `n` levels after `level`; `earlier` has the objects of all levels up to `level`
 unfoldable pub levels_after : (ℕ → List ℕ) → ℕ → List ℕ → List ℕ → List (List ℕ)
 levels_after needs zero earlier level = []
 levels_after needs (suc n) earlier level =

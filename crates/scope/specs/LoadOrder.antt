@@ -31,8 +31,8 @@ needs_of program libraries place =
 abbrev pub level_0 : List ℕ → List ℕ
 level_0 preloads = 0 ∷ map (λ p. p + 1) preloads
 
--- The places of the objects in load order, level by level. There can't be more levels with objects than
--- there are objects.
+-- The places of the objects in load order, level by level. The number of objects is a limit for the
+-- number of levels that have objects.
 unfoldable pub load_places : List ℕ → List Named → List ℕ → List ℕ
 load_places program libraries preloads =
     joined_levels (needs_of program libraries) (length (available program libraries)) (level_0 preloads)
@@ -50,7 +50,7 @@ pub record Need : Type 0 where
   pub needer : List ℕ
   pub name : List ℕ
 
--- the names that an object needs, in the order of the object's DT_NEEDED entries; each needed name comes with the
+-- the names that an object needs, in the order of the object's DT_NEEDED entries, each with the
 -- object's name
 abbrev pub needed_by : Named → List Need
 needed_by object = map (λ name. record { needer = object.name; name = name }) (needed object.file)
@@ -59,7 +59,7 @@ needed_by object = map (λ name. record { needer = object.name; name = name }) (
 abbrev pub is_missing : List (List ℕ) → Need → Bool
 is_missing names need = is_none (place_of names need.name)
 
--- the first needed name that isn't installed: the objects are taken in load order, and the names that each object needs
--- in the order of its DT_NEEDED entries
+-- the first needed name that isn't installed, or none; the objects are taken in load order, and the
+-- needed names of each object in the order of its DT_NEEDED entries
 unfoldable pub missing : List ℕ → List Named → List ℕ → Option Need
 missing program libraries preloads = find (is_missing (names_of libraries)) (flat_map needed_by (load_order program libraries preloads))

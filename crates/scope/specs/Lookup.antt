@@ -14,8 +14,8 @@ use Rattle.scope.specs.declared.target.Target.TheVariants.{At}
 abbrev pub all_places : List Named → List ℕ
 all_places objects = range_with_len 0 (length objects)
 
--- The places that are searched for the symbols of an object, in this order: its own place if it is
--- symbolic, and then all places in load order.
+-- The places that are searched for the symbols of an object, in this order: the object's own place
+-- if the object is symbolic, and then all places in load order.
 abbrev pub scope_of : List Named → ℕ → List ℕ
 scope_of objects object =
     if is_symbolic (file_at objects object) then object ∷ all_places objects else all_places objects
@@ -24,6 +24,6 @@ scope_of objects object =
 abbrev pub definition_at : List Named → List ℕ → ℕ → Option Target
 definition_at objects name place = option_map (At place) (definition_of (file_at objects place) name)
 
--- the first definition of `name`, weak or not, in the places that are searched for an object
+-- the first definition of `name`, which may be weak, in the places that are searched for an object
 unfoldable pub lookup : List Named → ℕ → List ℕ → Option Target
 lookup objects object name = first_of (map (definition_at objects name) (scope_of objects object))

@@ -27,14 +27,15 @@ name_at objects place = get_or (map (λ o. o.name) objects) place []
 abbrev pub file_at : List Named → ℕ → List ℕ
 file_at objects place = get_or (map (λ o. o.file) objects) place []
 
--- the file is accepted and admitted: no test refuses it, it exports no name twice, and its hash table can be trusted
+-- the file is accepted and admitted: all tests accept it, it exports no name twice, and its hash
+-- table can be trusted
 pub record IsTaken (file : List ℕ) : Type 0 where
   pub accepted : first_refusal file ≡ None
   pub admitted : admission_refusal file ≡ None
   pub unique : HasUniqueNames file
   pub table : HasGoodTable file
 
--- objects in load order: the first is the program, and no test refuses any file
+-- objects in load order: the first is the program, and all tests accept each file
 pub record IsOrder (objects : List Named) : Type 0 where
   pub program : option_map (λ o. o.name) (slice_get objects 0) ≡ Some program_name
   pub taken : All (λ o. IsTaken o.file) objects

@@ -1,4 +1,4 @@
--- The queue with which the levels are computed (own).
+-- The queue that is used to compute the levels (own).
 use Rattle.std.specs.Prelude.{ℕ, ◌<◌, List, [], ◌∷◌, ◌++◌, if◌then◌else◌, nat_eq}
 use Rattle.std.specs.List.{All, IsDistinct}
 use Rattle.scope.specs.Levels.{is_among}

@@ -14,14 +14,15 @@ use Rattle.scope.specs.declared.target.Target.TheVariants.{Zero, At}
 abbrev pub is_own : Symbol → Bool
 is_own s = is_local s || (is_defined s && not (has_default_visibility s))
 
--- no other object can define the symbol for its object: it isn't defined there, and it is hidden or internal
+-- no other object can define the symbol for its object: its object doesn't define it, and it is
+-- hidden or internal
 abbrev pub is_withheld : Symbol → Bool
 is_withheld s = not (is_defined s) && is_hidden s
 
--- The target of symbol number `i` of the object at place `object`; `s` has the symbol's fields. The
--- target is the symbol itself if `is_own` is true of it. Otherwise, unless it is withheld, the target is
--- the definition that lookup finds under its name. If there is no such definition, the target of a weak
--- symbol is 0, and other symbols have none.
+-- The target of symbol number `i` of the object at place `object`; `s` has the symbol's fields. If
+-- no other object can replace the symbol, the target is the symbol itself. Otherwise, unless the
+-- symbol is withheld, the target is the definition that lookup finds for its name. If there is no
+-- such definition, the target of a weak symbol is 0, and any other symbol has no target.
 abbrev pub target_of : List Named → ℕ → ℕ → Symbol → Option Target
 target_of objects object i s =
     if is_own s then Some (At object i)

@@ -1,4 +1,4 @@
-// Stores the definition of a name, or that there is none, in eight bytes.
+// Stores the definition of a name, or the fact that there is none, in eight bytes.
 
 ghost use Rattle.std.specs.Prelude.{◌≡◌, ◌≤◌, None, Some};
 ghost use Rattle.scope.specs.declared.target.Target.TheVariants.{At};
@@ -6,9 +6,9 @@ ghost use Rattle.scope.specs.declared.target.Target.TheVariants.{At};
 use crate::target::Target;
 use std::marker::Model;
 
-/// A definition by an object in load order, or no definition, in eight bytes. There is one such
-/// value for each symbol. Symbol number 0 means that there is no definition. In contracts, the
-/// value is the definition as a target, or none.
+/// A definition by an object in load order, or no definition, in eight bytes, because there is one
+/// such value for each symbol. Symbol number 0 stands for no definition. In contracts, the value is
+/// the definition as a target, or none.
 #[derive(Clone, Drop)]
 pub(crate) struct Definition {
     object: u32,
@@ -26,7 +26,7 @@ impl Model for Definition {
 }
 
 impl Definition {
-    /// Makes the value that means no definition.
+    /// Makes the value that stands for no definition.
     #[tactic(auto, unfolding(crate::specs::inside::Definitions::kept_target))]
     pub(crate) fn none() -> Definition
         ensures { result ≡ None }

@@ -1,4 +1,5 @@
-// Finds, for all symbols of an order at once, the definitions that lookup finds one by one.
+// Finds the definitions of all symbols of an order at once. They are the same as those that lookup
+// finds one by one.
 
 ghost use Rattle.std.specs.Prelude.{◌≡◌, ◌<◌, ◌≤◌, ◌+◌, ◌^◌, ◌↔◌, ℕ, [], length, map, false};
 ghost use Rattle.std.specs.Prelude.{IsTrue, IfOk, slice_index_or};
@@ -37,7 +38,7 @@ fn admitted<'a>(
     Ok(all)
 }
 
-/// Returns a row for each object, with no definition for each of the object's symbols.
+/// Returns a row for each object, in which no symbol of the object has a definition yet.
 fn no_rows(alloc: Global, objects: &[LoadedObject<'_>]) -> Result<Vec<Vec<Definition>>, AllocError>
     ensures { IfOk result (λ v. HaveRoom objects.now (map (λ r. r.items) v.items)) }
 {
@@ -62,8 +63,8 @@ fn has_symbolic(objects: &[LoadedObject<'_>]) -> bool
     false
 }
 
-/// Returns, for each symbol, the definition of its name in its own object. Returns an empty list if
-/// no object is symbolic, because then none of these definitions is used.
+/// Returns, for each symbol, the definition of its name in its own object. If no object is
+/// symbolic, returns an empty list, because these definitions aren't needed.
 fn own_where_symbolic(
     alloc: Global,
     objects: &[LoadedObject<'_>],
@@ -118,7 +119,7 @@ fn found_for(
     definition_at(first, symbol.number as usize)
 }
 
-/// Stores the definition found for a symbol of the object at `place` in this object's row.
+/// Stores the definition `found` for a symbol of the object at `place`, in this object's row.
 fn put(rows: &mut [Vec<Definition>], place: usize, symbol: u32, found: Definition)
     requires place { place < length rows.old }
     requires symbol { symbol
@@ -130,9 +131,9 @@ fn put(rows: &mut [Vec<Definition>], place: usize, symbol: u32, found: Definitio
 }
 
 impl DefinitionTable {
-    /// Finds the definitions for all symbols of the objects. Allocates about 8 bytes a symbol for
-    /// the result, and about 60 more while it runs. Returns an error if there are 2^32 objects or
-    /// more.
+    /// Finds the definitions of all symbols of the objects. Allocates about 8 bytes for each symbol
+    /// of the result, and about 60 more while it runs. Returns an error if there are 2^32 objects
+    /// or more.
     pub(crate) fn new(
         alloc: Global,
         objects: &[LoadedObject<'_>],
@@ -155,7 +156,7 @@ impl DefinitionTable {
         Ok(DefinitionTable { rows })
     }
 
-    /// Returns the definition found for symbol number `symbol` of the object at `place`.
+    /// Returns the definition of symbol number `symbol` of the object at `place`, if there is one.
     pub(crate) fn of_symbol(&self, place: usize, symbol: u32) -> Option<Target>
         requires place { place < length self.now.rows.items }
         requires symbol { symbol

@@ -1,4 +1,4 @@
-// Finds the definitions of names. The names are identified by numbers.
+// Finds the definitions of names, which are identified by numbers.
 
 ghost use Rattle.std.specs.Prelude.{◌≡◌, ◌<◌, ◌≤◌, ◌+◌, ◌^◌, ℕ, length, map, None, IfOk};
 ghost use Rattle.std.specs.Prelude.{replicate};
@@ -15,7 +15,7 @@ use crate::target::Target;
 use hash_check::NumberedSymbol;
 use std::alloc::{AllocError, Global};
 
-/// Returns `count` values that all mean no definition.
+/// Returns `count` values that stand for no definition.
 pub(crate) fn no_definitions(alloc: Global, count: usize) -> Result<Vec<Definition>, AllocError>
     ensures { IfOk result (λ v. v.items ≡ replicate count None) }
 {
@@ -35,8 +35,8 @@ fn is_exported(objects: &[LoadedObject<'_>], symbol: NumberedSymbol) -> bool
     objects[symbol.object].object().is_exported(symbol.symbol)
 }
 
-/// If symbol `at` of the list is exported, and the number of its name has no definition yet, stores
-/// the symbol as the definition for this number.
+/// Stores symbol number `at` of the list as the definition of its name's number, if the symbol is
+/// exported and the number has no definition yet.
 fn keep_first(
     objects: &[LoadedObject<'_>],
     symbols: &[NumberedSymbol],
@@ -56,7 +56,7 @@ fn keep_first(
     }
 }
 
-/// Returns, for each number, the first definition in load order, weak or not.
+/// Returns, for each number, the first definition in load order. It may be weak.
 pub(crate) fn first_definitions(
     alloc: Global,
     objects: &[LoadedObject<'_>],
@@ -74,8 +74,8 @@ pub(crate) fn first_definitions(
     Ok(first)
 }
 
-/// If symbol `at` of the list is exported, stores the symbol as the definition for the number of
-/// its name.
+/// Stores symbol number `at` of the list as the definition of its name's number, if the symbol is
+/// exported.
 fn keep_last(
     objects: &[LoadedObject<'_>],
     symbols: &[NumberedSymbol],
@@ -94,9 +94,9 @@ fn keep_last(
     }
 }
 
-/// Stores the definitions by the objects up to the one at `place`. The definitions among the first
-/// `kept` symbols of the list have been stored before. Returns the number of symbols of the list
-/// that have been processed after the call.
+/// Stores the definitions by the objects up to the one at `place`. The first `kept` symbols of the
+/// list have already been processed. Returns the number of symbols that have been processed after
+/// the call.
 fn keep_up_to(
     objects: &[LoadedObject<'_>],
     symbols: &[NumberedSymbol],
@@ -120,7 +120,7 @@ fn keep_up_to(
     at
 }
 
-/// Returns `found` if it belongs to the object at `place`, and otherwise no definition.
+/// Returns `found` if it is a definition by the object at `place`, and otherwise no definition.
 #[tactic(auto, unfolding(crate::specs::inside::Definitions::own_of))]
 fn own_one(found: &Definition, place: usize) -> Definition
     ensures { result ≡ own_of place found.now }

@@ -10,8 +10,8 @@ use indexmap::IndexSet;
 use std::alloc::{AllocError, Global};
 use std::marker::Model;
 
-/// The names of installed libraries, in a form that is fast to search. In contracts, the value is
-/// the list of the names in the order of the libraries.
+/// The names of installed libraries, in a form that can be searched fast. In contracts, the value
+/// is the list of the names in the order of the libraries.
 #[derive(Drop)]
 pub(crate) struct Installed<'a> {
     names: IndexSet<&'a [u8]>,

@@ -7,8 +7,8 @@ ghost use Rattle.scope.specs.LoadOrder.{level_0};
 use crate::places::Places;
 use std::alloc::{AllocError, Global};
 
-/// Returns a queue with level 0: the program and the preloads. `preloads` has the preloads' numbers
-/// in the list of libraries. The queue is for the places of the program and of `count` libraries.
+/// Returns a queue that has level 0: the program and the preloads. `preloads` has the preloads'
+/// numbers in the list of libraries. The queue has places for the program and `count` libraries.
 pub fn first_level(alloc: Global, count: usize, preloads: &[usize]) -> Result<Places, AllocError>
     requires room { count + 1 < 2 ^ 64 }
     requires preloads { All (λ p. p < count) preloads.now }

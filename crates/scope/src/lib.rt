@@ -1,5 +1,5 @@
-//! Load order and lookup: which symbol each symbol of a program is bound to (System V gABI chapters
-//! 4 and 5, ld.so(8)).
+//! Load order and lookup: the targets to which the symbols of a program are bound (System V gABI
+//! chapters 4 and 5, ld.so(8)).
 //!
 //! `load_order` puts a program, the preloads, and the libraries that they need into load order.
 //! `resolve` returns the target of a symbol of one of these objects. The target is a symbol or 0.

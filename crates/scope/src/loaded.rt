@@ -7,9 +7,9 @@ ghost use Rattle.scope.specs.Objects.{IsTaken};
 use hash_check::Admitted;
 use std::marker::Model;
 
-/// An object in load order, with its name. Whether the object is symbolic is read when this value
-/// is made, so that it isn't read again for each symbol. In contracts, the value is the name and
-/// the file's bytes.
+/// An object in load order, with its name. This value also stores whether the object is symbolic,
+/// so that the file isn't read again for each symbol. In contracts, the value is the name and the
+/// file's bytes.
 #[derive(Drop)]
 pub(crate) struct LoadedObject<'a> {
     name: &'a [u8],
@@ -54,8 +54,8 @@ impl<'a> LoadedObject<'a> {
         self.object
     }
 
-    /// Returns whether the symbols to which the object itself refers are looked up in the object
-    /// first.
+    /// Returns whether a lookup of a symbol to which the object refers begins with the object
+    /// itself.
     pub(crate) fn is_symbolic(&self) -> bool
         ensures { result ≡ is_symbolic self.now.file }
     {

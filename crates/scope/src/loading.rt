@@ -55,8 +55,8 @@ fn objects_at<'a>(
     Ok(objects)
 }
 
-/// Returns the places of the objects in load order. Goes through a queue of places. For each object
-/// in the queue, appends the libraries that the object needs to the queue.
+/// Returns the places of the objects in load order. Processes a queue of places: for each object in
+/// the queue, appends the libraries that the object needs.
 fn load_places<'a>(
     alloc: Global,
     program: &'a Admitted<'a>,
@@ -86,8 +86,8 @@ fn load_places<'a>(
 /// Puts a program, the preloads, and all libraries that they need into load order, or returns the
 /// first needed name that isn't installed. `preloads` has the preloads' numbers in the list of
 /// libraries. Makes one pass over the dynamic section of each object, with one search for each
-/// needed name. Allocates about 40 bytes a library. If lookups by walks may cost more than finding
-/// all definitions at once, also allocates memory for each symbol.
+/// needed name. Allocates about 40 bytes for each library. If lookups by walks may take longer than
+/// finding all definitions at once, also allocates memory for each symbol.
 pub fn load_order<'a>(
     alloc: Global,
     program: &'a Admitted<'a>,

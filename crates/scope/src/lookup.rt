@@ -28,8 +28,8 @@ fn definition_at(order: &Order<'_>, place: usize, name: &[u8], hash: u32) -> Opt
     }
 }
 
-/// Returns the first definition of `name` in load order, weak or not. `hash` is the hash of `name`.
-/// Follows one walk in each object, up to the object that defines the name.
+/// Returns the first definition of `name` in load order, which may be weak. `hash` is the hash of
+/// `name`. Follows one walk in each object, up to the object that defines the name.
 fn first_by_walks(order: &Order<'_>, name: &[u8], hash: u32) -> Option<Target>
     requires { hash ≡ elf_hash name.now }
     ensures { result ≡ first_of
@@ -43,9 +43,9 @@ fn first_by_walks(order: &Order<'_>, name: &[u8], hash: u32) -> Option<Target>
     None
 }
 
-/// Returns the first definition, weak or not, of the name of symbol number `symbol` of the object
-/// at place `object`. If this object is symbolic, the object itself is searched first. Then all
-/// objects are searched in load order.
+/// Returns the first definition, which may be weak, of the name of symbol number `symbol` of the
+/// object at place `object`. If this object is symbolic, searches it first. Then searches all
+/// objects in load order.
 #[tactic(auto, unfolding(crate::specs::Lookup::lookup))]
 pub(crate) fn lookup(order: &Order<'_>, object: usize, symbol: u32) -> Option<Target>
     requires object { object < length order.now }

@@ -13,7 +13,7 @@ use crate::places::Places;
 use crate::refusal::OrderRefusal;
 use std::alloc::Global;
 
-/// Adds to the queue the libraries that an object needs, or returns the first needed name that
+/// Adds the libraries that an object needs to the queue, or returns the first needed name that
 /// isn't installed. Makes one pass over the object's dynamic section.
 pub(crate) fn add_needed(
     alloc: Global,

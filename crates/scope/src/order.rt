@@ -27,7 +27,7 @@ pub fn program_name<'a>() -> &'a [u8]
 
 /// A program and the libraries that are bound with it, in load order. The program is the first
 /// object, and its name is `/program`. In contracts, the value is the list of the objects, each
-/// with its name and its file's bytes. If lookups by walks may cost more than finding all
+/// with its name and its file's bytes. If lookups by walks may take longer than finding all
 /// definitions at once, the order also has the definitions of all symbols.
 #[derive(Drop)]
 pub struct Order<'a> {
@@ -49,9 +49,9 @@ impl<'a> Model for Order<'a> {
 }
 
 impl<'a> Order<'a> {
-    /// Makes an order of `objects`. If lookups by walks may cost more than finding all definitions
-    /// at once, finds the definitions of all symbols and stores these definitions. If memory for
-    /// the definitions is refused, the order does without them.
+    /// Makes an order of `objects`. If lookups by walks may take longer than finding all
+    /// definitions at once, finds and stores the definitions of all symbols. If memory for the
+    /// definitions is refused, makes the order without them.
     pub(crate) fn new(alloc: Global, objects: Vec<LoadedObject<'a>>) -> Order<'a>
         requires { IsOrder objects.items }
         ensures { result ≡ objects.entry.items }
@@ -60,10 +60,10 @@ impl<'a> Order<'a> {
         Order { objects, table }
     }
 
-    /// Makes the order of a program and of libraries that are in load order already, for callers
-    /// that have found this order themselves. Allocates about 30 bytes a library. If lookups by
-    /// walks may cost more than finding all definitions at once, also allocates memory for each
-    /// symbol.
+    /// Makes the order of a program and of libraries that are already in load order, for callers
+    /// that have found this order themselves. Allocates about 30 bytes for each library. If lookups
+    /// by walks may take longer than finding all definitions at once, also allocates memory for
+    /// each symbol.
     pub fn of(
         alloc: Global,
         program: &'a Admitted<'a>,
@@ -84,7 +84,7 @@ impl<'a> Order<'a> {
     pub fn count(&self) -> usize
         ensures count { result ≡ length self.now }
 
-        // The first object is the program, and no test refuses any file.
+        // The first object is the program, and all tests accept each file.
         ensures order { IsOrder self.now }
     {
         self.objects.len()
@@ -126,8 +126,8 @@ impl<'a> Order<'a> {
         }
     }
 
-    /// Returns whether the symbols to which object number `i` itself refers are looked up in this
-    /// object first.
+    /// Returns whether a lookup of a symbol to which object number `i` refers begins with this
+    /// object.
     pub(crate) fn is_symbolic(&self, i: usize) -> bool
         requires { i < length self.now }
         ensures { result ≡ is_symbolic (file_at self.now i) }

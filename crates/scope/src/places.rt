@@ -9,9 +9,9 @@ use std::alloc::{AllocError, Global};
 use std::marker::Model;
 
 /// A queue of places below a limit. Each place is in the queue at most once, and the places are in
-/// the order in which they were added. Load order is computed with such a queue. Callers that find
-/// the needed libraries one after the other use such a queue too. In contracts, the value is the
-/// limit and the places.
+/// the order in which they were added. Such a queue is used to compute load order, also by callers
+/// that find the needed libraries one after the other. In contracts, the value is the limit and the
+/// places.
 #[derive(Drop)]
 pub struct Places {
     places: Vec<usize>,
@@ -58,13 +58,13 @@ impl Places {
         self.places[i]
     }
 
-    /// Adds a place, unless the queue has this place already. In that case, allocates nothing.
+    /// Adds a place, unless the queue already has it. If the queue has it, allocates nothing.
     pub fn add(&mut self, place: usize) -> Result<(), AllocError>
         requires { place < self.old.limit }
         ensures ok { OnOk result (self.new
             ≡ record { limit = self.old.limit; places = grown_by self.old.places place }) }
 
-        // Memory is refused only for a new place, and then nothing has changed.
+        // Memory is refused only for a new place. In this case nothing has changed.
         ensures err { OnErr result (is_among self.old.places place ≡ false) }
         ensures same { OnErr result (self.new ≡ self.old) }
     {
@@ -75,8 +75,8 @@ impl Places {
         Ok(())
     }
 
-    /// If the queue has more than `count` places, removes the last places until `count` are left.
-    /// Allocates nothing. The time depends on the number of removed places.
+    /// Removes places from the end of the queue until at most `count` are left. Allocates nothing.
+    /// The time is proportional to the number of removed places.
     pub fn shorten(&mut self, count: usize)
         ensures { self.new
             ≡ record { limit = self.old.limit; places = take count self.old.places } }

@@ -17,7 +17,8 @@ pub(crate) fn is_own(symbol: Symbol) -> bool
     symbol.is_local() || (symbol.is_defined() && !symbol.has_default_visibility())
 }
 
-/// Returns whether a symbol isn't defined in its object, and no other object can define it.
+/// Returns whether a symbol isn't defined in its own object, and no other object can define it
+/// either.
 pub(crate) fn is_withheld(symbol: Symbol) -> bool
     ensures { result ≡ is_withheld symbol }
 {
@@ -26,7 +27,7 @@ pub(crate) fn is_withheld(symbol: Symbol) -> bool
 
 /// Returns the target of symbol number `symbol` of the object at place `object`. Allocates nothing.
 /// If the symbol has to be looked up, hashes its name once, and follows one walk in each object up
-/// to the object that defines the name. A symbolic object costs one more walk.
+/// to the object that defines the name. A symbolic object takes one more walk.
 #[tactic(auto, unfolding(crate::specs::Target::target))]
 pub fn resolve(order: &Order<'_>, object: usize, symbol: u32) -> Result<Target, Undefined>
     requires object { object < length order.now }

@@ -14,6 +14,6 @@ pub enum Target {
     },
 }
 
-/// The symbol isn't bound to anything: no object defines it, and it isn't weak.
+/// The symbol isn't bound: no object defines it, and it isn't weak.
 #[derive(Clone, Copy, PartialEq, Eq)]
 pub struct Undefined;

@@ -1,5 +1,5 @@
-// Decides whether it may be cheaper to find the definitions of all symbols at once than to walk
-// through the hash tables for each symbol.
+// Decides whether finding the definitions of all symbols at once may be faster than walking through
+// the hash tables for each symbol.
 
 ghost use Rattle.std.specs.Prelude.{◌≤◌, map, IfSome};
 ghost use Rattle.std.specs.List.{All};
@@ -12,7 +12,7 @@ use elf_dynamic::{Object, R_X86_64_64, R_X86_64_GLOB_DAT, R_X86_64_JUMP_SLOT, Re
 use hash_check::NameBudget;
 use std::alloc::Global;
 
-/// The number of walk steps that take no longer than putting one name into a table.
+/// The maximum number of walk steps that take no longer than inserting one name into a table.
 const STEPS_OF_A_NAME: u64 = 2;
 
 /// Returns whether a relocation uses the value of its symbol.
@@ -23,8 +23,8 @@ fn is_lookup(relocation: Relocation) -> bool {
     )
 }
 
-/// Returns the maximum number of lookups for an object: the number of its relocations that use a
-/// symbol's value, or the number of its symbols if that is smaller.
+/// Returns the maximum number of lookups for an object: the smaller of the number of its symbols
+/// and the number of its relocations that use a symbol's value.
 fn lookups_of(object: &Object<'_>) -> u64 {
     let mut naming = 0;
     for i in 0..object.rela_count() {
@@ -50,8 +50,8 @@ fn walk_length(object: &Object<'_>, from: u32, most: u32) -> u32
 }
 
 /// Returns the number of symbols on the longest walk of an object. If all walks together have as
-/// many steps as the object has symbols, some walks share symbols. In this case the function stops,
-/// and returns the number of all symbols.
+/// many steps as the object has symbols, some walks share symbols. If this happens, stops and
+/// returns the number of all symbols.
 fn longest_walk(object: &Object<'_>) -> u32 {
     let mut left = object.symbol_count();
     let mut longest = 0;
@@ -66,11 +66,11 @@ fn longest_walk(object: &Object<'_>) -> u32 {
     longest
 }
 
-/// Returns whether walks may cost more than a table. For each object, add one step to the length of
-/// its longest walk. The cost of walks is the sum of these numbers, multiplied by the number of
-/// lookups. This cost is compared with twice the number of names. So if walks are followed, they
-/// compare at most two symbols a name, and at most four if objects are symbolic. A table takes a
-/// constant time for each name, as the name's admission did.
+/// Returns whether walks may take longer than a table. The cost of walks is the number of lookups,
+/// multiplied by the sum, over all objects, of one step and the length of the object's longest
+/// walk. The function compares this cost with twice the number of names. So if walks are used, they
+/// compare at most two symbols for each name, and at most four if objects are symbolic. A table
+/// takes a constant time for each name, as the name's admission did.
 fn may_be_long(objects: &[LoadedObject<'_>]) -> bool {
     let (mut lookups, mut steps, mut names) = (0u64, 0u64, 0u64);
     for loaded in objects {
@@ -82,9 +82,9 @@ fn may_be_long(objects: &[LoadedObject<'_>]) -> bool {
     lookups.saturating_mul(steps) > names.saturating_mul(STEPS_OF_A_NAME)
 }
 
-/// Returns whether the total length of the names that an object looks up shows that many of these
-/// names are tails of other names. Hashing such names one by one would cost the sum of
-/// their lengths.
+/// Returns whether many of the names that an object looks up are tails of other names, judged by
+/// the total length of these names. Hashing such names one by one would take time proportional to
+/// the sum of their lengths.
 fn share_bytes(object: &Object<'_>) -> bool {
     let mut budget = NameBudget::new(object.string_table().len());
     for i in 0..object.rela_count() {
@@ -108,8 +108,8 @@ fn any_share_bytes(objects: &[LoadedObject<'_>]) -> bool {
     false
 }
 
-/// If lookups by walks may cost more than finding all definitions at once, finds the definitions of
-/// all symbols. Otherwise, or if memory is refused, returns `None`.
+/// Finds the definitions of all symbols, if lookups by walks may take longer than this. Otherwise,
+/// or if memory is refused, returns `None`.
 pub(crate) fn worthy_table(alloc: Global, objects: &[LoadedObject<'_>]) -> Option<DefinitionTable>
     requires { All (λ o. IsTaken o.file) objects.now }
     ensures { IfSome result (λ t. IsFound objects.now (map (λ r. r.items) t.rows.items)) }

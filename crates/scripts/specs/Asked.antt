@@ -1,4 +1,4 @@
--- The command that a line of a script asks for (own).
+-- The command that a line of a script requests (own).
 use Rattle.std.specs.Prelude.{ℕ, List, drop, codes, bytes_eq, map, Option, Some, None, if◌then◌else◌}
 use Rattle.std.specs.Option.{option_map}
 use Rattle.requests.specs.Request.{Request, install, replace, remove, set_preloads, bind, list}
@@ -6,8 +6,8 @@ use Rattle.scripts.specs.Words.{has_front, hex_bytes, named, names_behind, progr
 use Rattle.scripts.specs.declared.command.AskedCommand.{AskedCommand}
 use Rattle.scripts.specs.declared.command.AskedCommand.TheVariants as asked
 
--- the command that a line without its newline asks for; a line that has none of these forms asks for no
--- command
+-- the command that a line (without its newline) requests, or none if the line has none of these
+-- forms
 abbrev pub request_meaning : List ℕ → Option Request
 request_meaning line =
     if has_front (codes "install ") line then option_map install (hex_bytes (drop 8 line))

@@ -9,7 +9,7 @@ use Rattle.scripts.specs.declared.fault.ScriptFault.TheVariants.{Write}
 use Rattle.scripts.specs.declared.reading.Got.{Got}
 use Rattle.scripts.specs.declared.reading.Got.TheVariants.{Whole, Cut, End}
 
--- if the bytes of a reader are known, they are `bytes`
+-- the bytes of a reader, if they are known, are `bytes`
 abbrev pub IsAll : Option (List ℕ) → List ℕ → Type 0
 IsAll known bytes = IfSome known (λ text. text ≡ bytes)
 
@@ -23,7 +23,7 @@ GotLine before after line Whole = Consumes before after (ended line) × IsLine l
 GotLine before after line Cut = IsAll before line × Consumes before after line × IsLine line × (0 < length line)
 GotLine before after line End = IsAll before [] × Consumes before after []
 
--- A line couldn't be read. Either the writer had failed before, and nothing was read; or a part of the
+-- A line couldn't be read. The writer had failed before, and nothing was read; or a part of the
 -- line was read, and the written and the buffered text are unchanged.
 abbrev pub Unread : Option (List ℕ) → Option (List ℕ) → Option (List ℕ) → Option (List ℕ) → List ℕ → ScriptFault → Type 0
 Unread before after waits now line Write = after ≡ before

@@ -10,11 +10,11 @@ use Rattle.program_parts.specs.Base.{base_of}
 abbrev pub hex_bytes : List ℕ → Option (List ℕ)
 hex_bytes word = if length word == 0 then None else result_ok (decode_of word)
 
--- whether a NAME may have this byte
+-- a NAME may have this byte
 abbrev pub is_visible : ℕ → Bool
 is_visible b = nat_le 0x21 b && nat_le b 0x7e
 
--- whether a word is a NAME: one or more visible bytes
+-- the word is a NAME: one or more visible bytes
 abbrev pub is_name : List ℕ → Bool
 is_name word = not (length word == 0) && list_all is_visible word
 
@@ -22,7 +22,7 @@ is_name word = not (length word == 0) && list_all is_visible word
 abbrev pub named : List ℕ → Option (List ℕ)
 named word = if is_name word then Some word else None
 
--- the NAMEs in the bytes, each of which comes after a space; none if the bytes have another form
+-- the NAMEs in the bytes, each after a space; none if the bytes have another form
 abbrev pub names_behind : List ℕ → Option (List (List ℕ))
 names_behind [] = Some []
 names_behind (b ∷ rest) =
@@ -44,6 +44,6 @@ program_behind rest =
     let word = word_in_front rest in
     placed_at (base_of word) (hex_bytes (drop (length word + 1) rest))
 
--- whether a line begins with `front`
+-- the line begins with `front`
 abbrev pub has_front : List ℕ → List ℕ → Bool
 has_front front line = bytes_eq (take (length front) line) front

@@ -1,4 +1,4 @@
-// The command that a line asks for.
+// The command that a line requests.
 
 ghost use Rattle.std.specs.Prelude.{◌≡◌, IfOk, MatchOption, length, drop, false, true};
 ghost use Rattle.std.specs.Option.{option_map};
@@ -11,16 +11,16 @@ use crate::word::{base_in, named, names_behind, word_in_front};
 use requests::Command;
 use std::alloc::{AllocError, Global};
 
-/// The command that a line asks for. It owns the bytes that HEX encodes, and the list of NAMEs.
+/// The command that a line requests. It owns the bytes that HEX encodes, and the list of NAMEs.
 #[derive(Drop)]
 pub enum AskedCommand<'a> {
     /// Installs the library with these bytes.
     Install(Vec<u8>),
-    /// Replaces the library with the same name by the library with these bytes.
+    /// Replaces the library that has the same name as the library with these bytes.
     Replace(Vec<u8>),
     /// Removes the library with this name.
     Remove(&'a [u8]),
-    /// Sets the preloads to these names, in this order.
+    /// Makes the libraries with these names the preloads, in this order.
     SetPreloads(Vec<&'a [u8]>),
     /// Binds a program with the libraries and the preloads.
     Bind {
@@ -61,7 +61,7 @@ pub fn behind<'a>(line: &'a [u8], front: &[u8]) -> Option<&'a [u8]>
     line.strip_prefix(front)
 }
 
-/// Reads BASE and HEX with a space between them. Returns the bytes of a program and its base, or
+/// Reads BASE and HEX, with a space between them. Returns the bytes of a program and its base, or
 /// `None` if `rest` has another form.
 pub fn program_behind(alloc: Global, rest: &[u8]) -> Result<Option<(Vec<u8>, u64)>, AllocError>
     ensures { IfOk result (λ both. option_map (λ p. (p.0.items, p.1)) both
@@ -80,8 +80,8 @@ pub fn program_behind(alloc: Global, rest: &[u8]) -> Result<Option<(Vec<u8>, u64
     }
 }
 
-/// Returns the command that a line asks for, or `None` if the line has none of the forms. The only
-/// error is that memory is refused.
+/// Returns the command that a line requests, or `None` if the line has none of the forms. Fails
+/// only if memory is refused.
 pub fn parse_command(alloc: Global, line: &[u8]) -> Result<Option<AskedCommand<'_>>, AllocError>
     ensures { IfOk result
         (λ asked. option_map request_asked asked ≡ request_meaning line.now) }

@@ -7,7 +7,7 @@ use std::alloc::AllocError;
 use text_output::WriteFault;
 use thiserror::Error;
 
-/// The reason why not all of a script was read, or not all of the answers were written.
+/// The reason why a part of a script wasn't read, or some of the answers weren't written.
 #[derive(Clone, Copy, Debug, PartialEq, Eq, Error)]
 pub enum ScriptFault {
     /// The reader failed.

@@ -9,13 +9,13 @@ ghost use Rattle.scripts.specs.Words.{hex_bytes};
 
 use std::alloc::{AllocError, Global};
 
-/// The number of bytes that are decoded at once.
+/// The maximum number of bytes that are decoded at once.
 const PIECE: usize = 16;
 
 /// The number of digits of a piece.
 const DIGITS: usize = 2 * PIECE;
 
-/// The value that marks a byte that isn't a digit.
+/// The value that stands for a byte that isn't a digit.
 const NO_DIGIT: u8 = 16;
 
 /// Returns the value of a digit of either case. Uses arithmetic instead of a table, so that the
@@ -42,7 +42,7 @@ fn values_of(digits: &[u8; DIGITS]) -> Option<[u8; DIGITS]>
         → (k : ℕ) × (k < 32) × (hex_digit_value (slice_index digits.now k) ≡ None) }
 {
     let mut values = [0; DIGITS];
-    // The greatest value so far. It is `NO_DIGIT` if a byte so far isn't a digit.
+    // The greatest value so far. It is `NO_DIGIT` if one of the bytes so far isn't a digit.
     let mut greatest = 0u8;
     for i in 0..DIGITS {
         let value = digit_value(digits[i]);

@@ -1,9 +1,9 @@
-//! The lines of a script: how they are read, and which command of a registry each line asks for.
+//! The lines of a script: how a program reads them, and the commands that they request.
 //!
-//! `next_line` reads the next line. Before it asks its reader for more bytes, it sends the buffered
-//! answers. `parse_command` returns the command that a line asks for. A program reads its other
-//! forms of lines with `behind` and `program_behind`. `put_line_refusal` appends the texts of L1
-//! (BadLine) and L2 (CutLine).
+//! `next_line` reads the next line. Before it reads more bytes from its reader, it sends the
+//! buffered answers. `parse_command` returns the command that a line requests. A program reads its
+//! other forms of lines with `behind` and `program_behind`. `put_line_refusal` appends the texts of
+//! L1 (BadLine) and L2 (CutLine).
 #![tactic(auto)]
 
 mod command;

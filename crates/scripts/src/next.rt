@@ -13,7 +13,7 @@ use memchr::memchr;
 use program_parts::Line;
 use std::io::{BufReader, Read, Write};
 
-/// Reads a line, and asks the reader for more bytes. No answer is buffered at that point, so a
+/// Reads a line, and reads more bytes from the reader. At that point no answer is buffered, so a
 /// process that sends one line at a time has received all answers.
 fn ask_line<R: Read>(
     pages: &mut BufReader<&mut R>,
@@ -32,8 +32,8 @@ fn ask_line<R: Read>(
     read_line(pages, line)
 }
 
-/// Reads the next line. If the bytes that were read before have no whole line left, sends all
-/// buffered answers before it asks the reader.
+/// Reads the next line. If the bytes that were read before contain no whole line, sends all
+/// buffered answers before it reads from the reader.
 pub fn next_line<R: Read, W: Write>(
     pages: &mut BufReader<&mut R>,
     line: &mut Vec<u8>,
@@ -48,7 +48,7 @@ pub fn next_line<R: Read, W: Write>(
         (reader_remaining (λ r. R.remaining r.now) pages.new)
         (append_known (W.contents writer.old) waiting.old.waiting)
         (append_known (W.contents writer.new) waiting.new.waiting) line.new.items) }
-    // If the reader was asked, no answer is buffered.
+    // If the call has read from the reader, no answer is buffered.
     ensures asked { IfOk result
         (λ _. HasLine (reader_buffer pages.old) ⊎ (waiting.new.waiting ≡ [])) }
 {

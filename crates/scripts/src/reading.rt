@@ -43,9 +43,9 @@ fn last_part(line: &[u8]) -> Got
     if line.is_empty() { Got::End } else { Got::Cut }
 }
 
-/// Appends the bytes that the reader has ready to a part of a line, up to the newline. If the
-/// newline or the end of the input is reached, returns the result of the read; otherwise returns
-/// `None`. After an error nothing has changed.
+/// Appends the bytes that the reader has ready to a part of a line, up to the newline. Returns the
+/// result of the read if the newline or the end of the input is reached, and otherwise `None`.
+/// After an error, nothing has changed.
 fn read_part<R: BufRead>(reader: &mut R, line: &mut Vec<u8>) -> Result<Option<Got>, ScriptFault>
     requires { IsLine line.old.items }
     ensures ok { IfOk result (λ got. (before : Option (List ℕ))
@@ -78,7 +78,7 @@ fn read_part<R: BufRead>(reader: &mut R, line: &mut Vec<u8>) -> Result<Option<Go
     }
 }
 
-/// Reads a line into `line`, and overwrites what `line` had before.
+/// Reads a line into `line`, and overwrites its previous contents.
 pub(crate) fn read_line<R: BufRead>(reader: &mut R, line: &mut Vec<u8>) -> Result<Got, ScriptFault>
     ensures ok { IfOk result
         (GotLine (R.remaining reader.old) (R.remaining reader.new) line.new.items) }
@@ -97,7 +97,7 @@ pub(crate) fn read_line<R: BufRead>(reader: &mut R, line: &mut Vec<u8>) -> Resul
 }
 
 /// Replaces the contents of `line` by the line whose newline is at position `end` of the bytes that
-/// were read before. Doesn't ask the reader for more bytes.
+/// were read before. Reads nothing from the reader.
 pub(crate) fn take_line<R: Read>(
     pages: &mut BufReader<&mut R>,
     end: usize,

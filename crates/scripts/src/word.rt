@@ -39,14 +39,14 @@ fn are_names(words: &[u8]) -> bool
     words.split(|b| *b == b' ').all(|word| is_name(word))
 }
 
-/// Returns the parts of `words` that the spaces separate.
+/// Returns the parts of `words` between its spaces.
 fn words_of(alloc: Global, words: &[u8]) -> Result<Vec<&[u8]>, AllocError>
     ensures { IfOk result (λ v. map (λ w. w.now) v.items ≡ slice_split (λ b. b == 32) words.now) }
 {
     words.split(|b| *b == b' ').collect(alloc)
 }
 
-/// Returns the NAMEs in `rest`, each of which comes after a space, or `None` if `rest` has another
+/// Returns the NAMEs in `rest`. Each NAME comes after a space. Returns `None` if `rest` has another
 /// form.
 pub(crate) fn names_behind(alloc: Global, rest: &[u8]) -> Result<Option<Vec<&[u8]>>, AllocError>
     ensures { IfOk result

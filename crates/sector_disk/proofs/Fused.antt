@@ -5,23 +5,23 @@ use Rattle.std.proofs.lemmas.List.Elements.{filter-append}
 use Rattle.std.proofs.lemmas.Result.{on_ok_weaker}
 use Rattle.std.specs.List.{filter}
 use Rattle.sector_disk.specs.declared.fuse.Plan.{Plan}
-use Rattle.sector_disk.specs.declared.fuse.Step.{Step}
+use Rattle.sector_disk.specs.declared.fuse.PastCall.{PastCall}
 use Rattle.sector_disk.specs.Disk.{Sector, DiskFacts, MayLeave, KeepsPast, IsUnchanged, GrowsBy, LeavesNowAlone, IsRead, IsWrite, IsSync}
 use Rattle.sector_disk.specs.Fuse.{reached, inner_moment, fused}
 use Rattle.sector_disk.specs.inside.FuseLaws.{inner_now}
 
 -- a stop of the fuse now may leave exactly what a stop of the inner disk may leave
-pub present : (plan : Plan) (inner : DiskFacts) (past : List Step) (k : ℕ) (c : Sector) → MayLeave (fused plan inner past) k c ↔ MayLeave inner k c
+pub present : (plan : Plan) (inner : DiskFacts) (past : List PastCall) (k : ℕ) (c : Sector) → MayLeave (fused plan inner past) k c ↔ MayLeave inner k c
 present plan inner past k c = (
   λ left. subst (λ u. inner.may_leave u k c) (inner_now inner.time past) left,
   λ left. subst (λ u. inner.may_leave u k c) (sym (inner_now inner.time past)) left,
 )
 
-module _ (plan : Plan) (inner inner' : DiskFacts) (past past' : List Step) (step : Step) (is_past : past' ≡ past ++ step ∷ [])
+module _ (plan : Plan) (inner inner' : DiskFacts) (past past' : List PastCall) (step : PastCall) (is_past : past' ≡ past ++ step ∷ [])
     (is_reached : step.reached ≡ true) (time : inner'.time ≡ inner.time + 1) where
   one_more : (u : ℕ) → u ≤ length past → reached (drop u past') ≡ reached (drop u past) + 1
   one_more u le =
-      let is = λ (x : Step). x.reached in
+      let is = λ (x : PastCall). x.reached in
       ap (λ p. reached (drop u p)) is_past
       ∙ ap reached (drop-append-le u past (step ∷ []) le)
       ∙ ap length (filter-append is (drop u past) (step ∷ []))

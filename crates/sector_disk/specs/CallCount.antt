@@ -12,7 +12,7 @@ calls_made count = length count.failed.items
 abbrev pub calls_failed : CallCount → ℕ
 calls_failed count = length (filter (λ failed. failed) count.failed.items)
 
--- the facts of a disk that isn't known to be honest: nothing is stated except its size and its calls
+-- the facts of a disk that may not be honest: only its size and its calls are known
 abbrev pub unknown_disk : ℕ → CallCount → DiskFacts
 unknown_disk sectors count = record {
   honest = false;

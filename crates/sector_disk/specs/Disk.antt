@@ -12,7 +12,7 @@ sector_bytes = 512
 abbrev pub Sector : Type 0
 Sector = List ℕ
 
--- a content is whole: it has as many bytes as a sector, each below 256
+-- a content is whole: it has as many bytes as a sector, and each byte is below 256
 pub record IsWhole (content : Sector) : Type 0 where
   pub size : length content ≡ sector_bytes
   pub bytes : All (λ byte. byte < 256) content
@@ -28,7 +28,7 @@ pub data Logged : Type 0 where
 
 -- The facts of a disk. Its moments are 0 to `time`, and each call adds one moment.
 pub record DiskFacts : Type 1 where
-  -- whether the disk is honest: `IsRead`, `IsWrite` and `IsSync` hold for its calls
+  -- the disk is honest: `IsRead`, `IsWrite` and `IsSync` hold for its calls
   pub honest : Bool
   pub sectors : ℕ
   pub time : ℕ
@@ -37,7 +37,7 @@ pub record DiskFacts : Type 1 where
   pub marks : ℕ → ℕ
   -- the number of calls that have failed
   pub failures : ℕ
-  -- for each fuse that the disk's calls go through, the plan of the calls that fail
+  -- the plans of the fuses through which the disk's calls go: the calls that fail
   pub plans : List Plan
   -- the writes and syncs that the disk logs, the oldest first; empty if the disk keeps no log
   pub log : List Logged
@@ -46,16 +46,17 @@ pub record DiskFacts : Type 1 where
   -- the set of a sector at a moment: the contents that a stop at that moment may leave in the sector
   pub may_leave : ℕ → ℕ → Sector → Type 0
 
--- a stop now may leave sector k with this content: it is in the sector's set
+-- a stop now may leave sector k with this content, because the content is in the sector's set
 abbrev pub MayLeave : DiskFacts → ℕ → Sector → Type 0
 MayLeave disk k c = disk.may_leave disk.time k c
 
--- a mixture of a moment: each sector, by itself, has a content that a stop at that moment may leave there
+-- `m` is a mixture of a moment: each sector, independently of the others, has a content that a stop
+-- at that moment may leave there
 pub record MixtureAt (disk : DiskFacts) (moment : ℕ) (m : List Sector) : Type 0 where
   pub size : length m ≡ disk.sectors
   pub each : (k : ℕ) → k < disk.sectors → disk.may_leave moment k (sector m k)
 
--- a mixture of the present moment: contents that a stop now may leave
+-- `m` is a mixture of the present moment: contents that a stop now may leave
 abbrev pub Mixture : DiskFacts → List Sector → Type 0
 Mixture disk m = MixtureAt disk disk.time m
 
@@ -72,12 +73,12 @@ pub record HasWholeSectors (disk : DiskFacts) : Type 0 where
   pub now : (k : ℕ) → k < disk.sectors → IsWhole (sector disk.now k)
   pub left : (u k : ℕ) (c : Sector) → u ≤ disk.time → k < disk.sectors → disk.may_leave u k c → IsWhole c
 
--- a stop now leaves the contents that reads return, and no other contents (`LeavesNowAlone` states this
--- sector by sector)
+-- a stop now leaves the contents that reads return, and no other contents (`LeavesNowAlone` is the
+-- condition for each sector)
 pub record IsSynced (disk : DiskFacts) : Type 0 where
   pub each : (m : List Sector) → Mixture disk m → m ≡ disk.now
 
--- at each moment of `old`, the sets of the sectors and the mark are the same in `new`
+-- `new` has the same sets and the same mark as `old` at each moment of `old`
 pub record KeepsPast (old new : DiskFacts) : Type 0 where
   pub sectors : new.sectors ≡ old.sectors
   pub later : old.time ≤ new.time
@@ -127,7 +128,8 @@ pub record GrowsBehindSync (most : ℕ) (old new : List Logged) : Type 0 where
   pub sync : MayAddSync old begun
   pub more : LogGrows most begun new
 
--- One call, on any disk: the time is greater by one, and a failure is counted. Size and honesty stay the same.
+-- One call, on any disk: the time is greater by one, and a failure is counted. The size and the
+-- honesty stay the same.
 pub record IsCall {T E : Type 0} (old new : DiskFacts) (result : Result T E) : Type 0 where
   pub honest : new.honest ≡ old.honest
   pub sectors : new.sectors ≡ old.sectors
@@ -143,12 +145,12 @@ pub record IsRead {T E : Type 0} (old new : DiskFacts) (at : ℕ) (content : Sec
   pub same : IsUnchanged old new
   pub ok : OnOk result (content ≡ sector old.now at)
 
--- A write to an honest disk. If it succeeds, reads return the new content, and the set of the sector
+-- A write to an honest disk. If it succeeds, reads return the new content, and the sector's set
 -- grows by this content.
 pub record IsWrite {T E : Type 0} (old new : DiskFacts) (at : ℕ) (content : Sector) (result : Result T E) : Type 0 where
   pub past : KeepsPast old new
   pub ok : OnOk result (new.now ≡ set old.now at content)
-  -- if the write fails, reads may return the old content, and any set may lose contents
+  -- if the write fails, reads may return the old content, and each set may have lost contents
   pub err : OnErr result (IsOldOrSet old.now at content new.now)
   pub stop : GrowsByAtMost old new at content
   pub stop_ok : OnOk result (GrowsBy old new at content)
@@ -159,16 +161,16 @@ pub record IsSync {T E : Type 0} (old new : DiskFacts) (result : Result T E) : T
   pub past : KeepsPast old new
   pub now : new.now ≡ old.now
   pub log : MayAddSync old.log new.log
-  -- if the sync fails, any set may lose contents
+  -- if the sync fails, each set may have lost contents
   pub stop : LeavesNoMore old new
   pub stop_ok : OnOk result (LeavesNowAlone new)
 
--- the number of calls that were made from `old` to `new`: each call made one moment
+-- the number of calls from `old` to `new`: each call adds one moment
 abbrev pub calls_between : DiskFacts → DiskFacts → ℕ
 calls_between old new = new.time - old.time
 
--- Some calls, on any disk: size and honesty stay the same. The number of failures and the length of the
--- log each grew by at most the number of calls.
+-- Some calls, on any disk: the size and the honesty stay the same. The number of failures and the
+-- length of the log each grew by at most the number of calls.
 pub record AreCalls (old new : DiskFacts) : Type 0 where
   pub honest : new.honest ≡ old.honest
   pub sectors : new.sectors ≡ old.sectors
@@ -188,7 +190,7 @@ pub record AreCallsAtMost (calls : ℕ) (old new : DiskFacts) : Type 0 where
   pub some : AreCalls old new
   pub time : new.time ≤ old.time + calls
 
--- From `old` to `new`, a stop at any moment leaves only lists of sectors for which `P` holds.
+-- At any moment from `old` to `new`, a stop leaves only lists of sectors for which `P` holds.
 pub record LeavesOnly (old new : DiskFacts) (P : List Sector → Type 0) : Type 0 where
   pub past : KeepsPast old new
   pub each : (m : List Sector) → LeftSince new old.time m → P m
@@ -198,23 +200,23 @@ pub record SameBut (places : ℕ → Type 0) (old new : List Sector) : Type 0 wh
   pub size : length new ≡ length old
   pub others : (k : ℕ) → (places k → ⊥) → sector new k ≡ sector old k
 
--- `m` is a mixture of the present moment, except for the sectors in `places`
+-- `m` equals a mixture of the present moment, except in the sectors in `places`
 abbrev pub IsMixtureBut : (ℕ → Type 0) → DiskFacts → List Sector → Type 0
 IsMixtureBut places disk m = (m' : List Sector) × Mixture disk m' × SameBut places m' m
 
--- `m` is a mixture of the disk, or such a mixture with `content` in sector `at`
+-- `m` is a mixture of the disk, or a mixture in which sector `at` was set to `content`
 abbrev pub IsMixtureOrSet : DiskFacts → ℕ → Sector → List Sector → Type 0
 IsMixtureOrSet disk at content m = Mixture disk m ⊎ ((m' : List Sector) × Mixture disk m' × (m ≡ set m' at content))
 
--- `new` is the same disk as `old`, but counts its moments in another way: the facts of both agree at the
--- present moment, and nothing is stated about earlier moments
+-- `new` is the same disk as `old`, but may count its moments in another way: at the present moment,
+-- the facts of both are the same; about earlier moments, nothing is stated
 pub record IsSameDisk (old new : DiskFacts) : Type 0 where
   pub honest : new.honest ≡ old.honest
   pub sectors : new.sectors ≡ old.sectors
   pub mark : new.marks new.time ≡ old.marks old.time
   pub same : IsUnchanged old new
 
--- the two disks can't be distinguished: whatever is true of `old` at each of its moments is true of `new`
+-- nothing distinguishes the two disks: at each moment of `old`, the facts of `new` are the same
 pub record IsCopy (old new : DiskFacts) : Type 0 where
   pub honest : new.honest ≡ old.honest
   pub sectors : new.sectors ≡ old.sectors
@@ -226,7 +228,7 @@ pub record IsCopy (old new : DiskFacts) : Type 0 where
   pub now : new.now ≡ old.now
   pub past : (u k : ℕ) (c : Sector) → new.may_leave u k c ↔ old.may_leave u k c
 
--- an honest disk at its start: it holds these sectors, all synced, and no call was made
+-- the disk is an honest disk at its start: it holds these sectors, all synced, and no call was made
 pub record StartsWith (disk : DiskFacts) (contents : List Sector) : Type 0 where
   pub honest : IsTrue disk.honest
   pub sectors : disk.sectors ≡ length contents
@@ -236,7 +238,7 @@ pub record StartsWith (disk : DiskFacts) (contents : List Sector) : Type 0 where
   pub failures : disk.failures ≡ 0
   pub log : disk.log ≡ []
 
--- a disk after a stop: it starts with one of the mixtures of the disk before
+-- the disk `new` is the disk `old` after a stop: it starts with one of the mixtures of `old`
 pub record IsStopped (old new : DiskFacts) : Type 0 where
   pub mixture : Mixture old new.now
   pub starts : StartsWith new new.now

@@ -5,13 +5,13 @@ use Rattle.sector_disk.specs.declared.disk.DiskFault.{DiskFault}
 use Rattle.sector_disk.specs.declared.disk.DiskFault.TheVariants.{Failed}
 use Rattle.sector_disk.specs.declared.fuse.Fuse.{Fuse}
 use Rattle.sector_disk.specs.declared.fuse.Plan.{Plan}
-use Rattle.sector_disk.specs.declared.fuse.Step.{Step}
+use Rattle.sector_disk.specs.declared.fuse.PastCall.{PastCall}
 use Rattle.sector_disk.specs.declared.fuse.CallOutcome.{CallOutcome}
 use Rattle.sector_disk.specs.declared.fuse.CallOutcome.TheVariants.{Pass, Early, Late}
 use Rattle.sector_disk.specs.Disk.{Sector, DiskFacts, IsCall, IsRead, IsWrite, IsSync}
 
--- the outcome of call n: the planned call fails, late if the plan has `late`, and otherwise early; if
--- `forever` is true, later calls fail early; all other calls pass
+-- the outcome of call n: the planned call fails, late if `late` is true and early otherwise; if
+-- `forever` is true, later calls fail early; all other calls succeed
 abbrev pub outcome_of : Plan → ℕ → CallOutcome
 outcome_of plan n =
     if n == plan.call
@@ -19,17 +19,18 @@ outcome_of plan n =
     else (if plan.forever && nat_lt 0 plan.call && nat_lt plan.call n then Early else Pass)
 
 -- the number of these calls that reached the inner disk
-abbrev pub reached : List Step → ℕ
+abbrev pub reached : List PastCall → ℕ
 reached steps = length (filter (λ step. step.reached) steps)
 
--- the moment of the inner disk at moment u of the fuse: the inner disk's present moment `time`, minus the number of
--- calls since u that reached the inner disk
-abbrev pub inner_moment : ℕ → List Step → ℕ → ℕ
+-- the moment of the inner disk at moment u of the fuse: the inner disk's present moment `time`,
+-- minus the number of calls that reached the inner disk since u
+abbrev pub inner_moment : ℕ → List PastCall → ℕ → ℕ
 inner_moment time past u = time - reached (drop u past)
 
--- The facts of the inner disk, but with the fuse's own clock and its own count of failures, and with the fuse's plan
--- added. The mark of a moment is the mark of the inner disk at that moment.
-abbrev pub fused : Plan → DiskFacts → List Step → DiskFacts
+-- The facts of a disk under a fuse: those of the inner disk, except that the fuse has its own clock
+-- and its own count of failures, and adds its plan. The mark of a moment is the inner disk's mark
+-- at that moment.
+abbrev pub fused : Plan → DiskFacts → List PastCall → DiskFacts
 fused plan inner past = record {
   honest = inner.honest;
   sectors = inner.sectors;
@@ -50,7 +51,7 @@ fuse_facts facts fuse = fused fuse.plan (facts fuse.inner) fuse.past.items
 abbrev pub inner_of : {D : Type 0} → Fuse D → D
 inner_of fuse = fuse.inner
 
--- the plan of a fuse: which calls fail
+-- the plan of a fuse: the calls that fail
 abbrev pub plan_of : {D : Type 0} → Fuse D → Plan
 plan_of fuse = fuse.plan
 
@@ -76,8 +77,8 @@ WasSynced facts old new reply =
     IsCall (facts old.inner) (facts new.inner) reply
     × (IsTrue (facts old.inner).honest → IsSync (facts old.inner) (facts new.inner) reply)
 
--- the outcome of a call: it passes; or it fails early, before it reaches the inner disk; or it fails
--- late, after the inner disk has made it
+-- the outcome of a call: it succeeds; or it fails early, before it reaches the inner disk; or it
+-- fails late, after the inner disk has carried it out
 abbrev pub HasOutcome : {D : Type 0} → CallOutcome → Fuse D → Fuse D → (Result (Unit {0}) DiskFault → Type 0) → Result (Unit {0}) DiskFault → Type 0
 HasOutcome Pass old new WasAsked result = WasAsked result
 HasOutcome Early old new WasAsked result = (new.inner ≡ old.inner) × (result ≡ Err Failed)

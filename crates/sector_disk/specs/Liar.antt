@@ -4,7 +4,7 @@ use Rattle.sector_disk.specs.declared.liar.Liar.{Liar}
 use Rattle.sector_disk.specs.Disk.{Sector, sector_bytes, DiskFacts}
 use Rattle.sector_disk.specs.CallCount.{unknown_disk}
 
--- the facts of a liar, which is a disk that isn't honest: its size and its calls, and nothing else
+-- the facts of a liar, which isn't an honest disk: only its size and its calls are known
 abbrev pub liar_facts : Liar → DiskFacts
 liar_facts liar = unknown_disk liar.sectors liar.calls
 

@@ -14,7 +14,7 @@ memory_facts m = facts_of m.start.items m.writes.items m.synced m.past.items
 abbrev pub memory_choices : Memory → ℕ → List Sector
 memory_choices m k = choices m.start.items m.writes.items m.synced k
 
--- every sector has the choices that it had
+-- every sector has the same choices as before
 pub record KeepsChoices (old new : Memory) : Type 0 where
   pub each : (k : ℕ) → memory_choices new k ≡ memory_choices old k
 
@@ -27,7 +27,7 @@ pub record AddsChoice (old new : Memory) (at : ℕ) (content : Sector) : Type 0 
 pub record HasOneChoice (disk : Memory) : Type 0 where
   pub each : (k : ℕ) → k < (memory_facts disk).sectors → memory_choices disk k ≡ sector (memory_facts disk).now k ∷ []
 
--- the content is choice number `named`, modulo the number of choices, for some `named` that `IsNamed`
--- allows
+-- the content is choice number `named`, modulo the number of choices, and `IsNamed` allows this
+-- `named`
 abbrev pub IsPicked : (ℕ → Type 0) → List Sector → Sector → Type 0
 IsPicked IsNamed cs content = (named : ℕ) × IsNamed named × (content ≡ sector cs (named % length cs))

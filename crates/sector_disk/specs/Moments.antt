@@ -5,11 +5,12 @@ use Rattle.sector_disk.specs.declared.written.Written.{Written}
 use Rattle.sector_disk.specs.Disk.{Sector, DiskFacts}
 use Rattle.sector_disk.specs.Written.{contents, choices}
 
--- moment number u: a past one, or otherwise the present one
+-- moment number u: a past moment or, if u isn't past, the present one
 abbrev pub moment_at : List Written → ℕ → List Moment → ℕ → Moment
 moment_at writes synced past u = slice_index_or past u (record { writes = length writes; synced = synced; failed = false })
 
--- the facts of a disk with these contents at its start, after these writes, of which the first `synced` are synced
+-- the facts of a disk with the contents `start` at its start, after these writes, the first
+-- `synced` of which are synced
 abbrev pub facts_of : List Sector → List Written → ℕ → List Moment → DiskFacts
 facts_of start writes synced past = record {
   honest = true;

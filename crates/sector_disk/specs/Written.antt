@@ -12,6 +12,7 @@ contents start (write ∷ writes) = contents (set start write.at write.content) 
 abbrev pub written_to : ℕ → List Written → List Sector
 written_to k writes = map (λ write. write.content) (filter (λ write. write.at == k) writes)
 
--- the choices of a stop for sector k: the content after the first `synced` writes, then each content written since
+-- the choices of a stop for sector k: the content after the first `synced` writes, and then each
+-- content that was written later
 abbrev pub choices : List Sector → List Written → ℕ → ℕ → List Sector
 choices start writes synced k = sector (contents start (take synced writes)) k ∷ written_to k (drop synced writes)

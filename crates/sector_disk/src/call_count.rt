@@ -1,4 +1,4 @@
-// Counts the calls of a disk, for clauses only. The count has no bytes at run time.
+// Counts the calls of a disk. Only clauses read the count, which has no bytes at run time.
 ghost use Rattle.std.specs.Prelude.{◌≡◌, ◌+◌, ℕ, OnOk, OnErr};
 ghost use Rattle.sector_disk.specs.CallCount.{calls_made, calls_failed, unknown_disk};
 ghost use Rattle.sector_disk.specs.Disk.{IsCall};
@@ -6,9 +6,9 @@ ghost use Rattle.sector_disk.specs.Disk.{IsCall};
 use crate::disk::DiskFault;
 use crate::past::Past;
 
-/// Counts the calls that were made to a disk, and how many of them failed. It has no bytes at run
-/// time, and only clauses read it. A disk of another crate contains a `CallCount`, and records each
-/// read, write and sync in it. So the disk meets the clauses `calls` of `Disk`.
+/// The number of calls that were made to a disk, and the number of those that failed. Only clauses
+/// read it, and it has no bytes at run time. A disk of another crate contains a `CallCount`, and
+/// records each read, write and sync in it, to meet the clauses `calls` of `Disk`.
 #[derive(Drop)]
 pub struct CallCount {
     // Whether each call failed, the oldest first.
@@ -16,7 +16,7 @@ pub struct CallCount {
 }
 
 impl CallCount {
-    /// Makes a count of no calls.
+    /// Makes a count for a disk to which no call was made.
     pub fn new() -> CallCount
         ensures made { calls_made result ≡ 0 }
         ensures failed { calls_failed result ≡ 0 }
@@ -32,7 +32,7 @@ impl CallCount {
         ensures ok { OnOk reply.now (calls_failed self.new ≡ calls_failed self.old) }
         ensures err { OnErr reply.now (calls_failed self.new ≡ calls_failed self.old + 1) }
 
-        // The count changes as by one call of a disk about which nothing else is known.
+        // The count changes as it does in one call of any disk.
         ensures call { (sectors : ℕ)
             → IsCall (unknown_disk sectors self.old) (unknown_disk sectors self.new) reply.now }
     {

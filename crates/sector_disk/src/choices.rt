@@ -1,4 +1,4 @@
-// A stop picks a content for each sector: its synced content, or one of the writes to it since
+// For each sector, a stop picks one content: the synced content, or the content of a write since
 // then.
 ghost use Rattle.std.specs.Prelude.{◌≡◌, ◌<◌, ◌≤◌, ◌+◌, ◌%◌, ◌^◌, ◌∷◌, ℕ};
 ghost use Rattle.std.specs.Prelude.{length, slice_index_or, All, drop};
@@ -9,10 +9,10 @@ ghost use Rattle.sector_disk.specs.Memory.{IsPicked};
 use crate::disk::SECTOR_BYTES;
 use crate::written::{Written, apply};
 
-/// Turns `sectors` into the mixture that `pick` names. `sectors` holds the contents before all
-/// `writes`. Each sector `at` that has `n` choices gets choice `pick(at, n) % n`. `counts` has the
-/// number of writes to each sector from number `synced` on; afterwards all counts are 0. The time
-/// is linear in the sectors and the writes.
+/// Turns `sectors`, which has the contents before all `writes`, into the mixture that `pick`
+/// chooses. Each sector `at` that has `n` choices gets choice `pick(at, n) % n`. Before the call,
+/// `counts` has the number of writes to each sector from write number `synced` on; after it, all
+/// counts are 0. The time is linear in the sectors and the writes.
 pub(crate) fn mix<F: Fn(u32, usize) -> usize>(
     sectors: &mut [[u8; SECTOR_BYTES]],
     counts: &mut [usize],
@@ -40,7 +40,7 @@ pub(crate) fn mix<F: Fn(u32, usize) -> usize>(
     set_contents(sectors, counts, loose);
 }
 
-/// Replaces the count of writes to each sector `at` by `pick(at, n) % n`. Here `n` is the count
+/// Replaces the count of writes to each sector `at` by `pick(at, n) % n`, where `n` is the count
 /// plus one. The result is 0, or the number of one of these writes, counted from 1.
 fn choose<F: Fn(u32, usize) -> usize>(counts: &mut [usize], pick: F)
     requires few { length counts.old < 2 ^ 32 }
@@ -58,8 +58,8 @@ fn choose<F: Fn(u32, usize) -> usize>(counts: &mut [usize], pick: F)
     }
 }
 
-/// Sets each sector `at` to the content of its write number `numbers[at]`, counted from 1. A sector
-/// for which this number is 0 keeps its content. All numbers are 0 afterwards.
+/// Sets each sector `at` to the content of its write number `numbers[at]`, counted from 1. If this
+/// number is 0, the sector keeps its content. After the call, all numbers are 0.
 fn set_contents(sectors: &mut [[u8; SECTOR_BYTES]], numbers: &mut [usize], writes: &[Written])
     requires in_range { All (λ write. write.at < length sectors.old) writes.now }
     requires numbered { length numbers.old ≡ length sectors.old }
@@ -79,7 +79,7 @@ fn set_contents(sectors: &mut [[u8; SECTOR_BYTES]], numbers: &mut [usize], write
     }
 }
 
-/// Subtracts the writes from number `start` on from the counts of writes to each sector.
+/// Subtracts the writes from write number `start` on from the numbers of writes to each sector.
 pub(crate) fn uncount(counts: &mut [usize], writes: &[Written], start: usize)
     requires made { start ≤ length writes.now }
     requires in_range { All (λ write. write.at < length counts.old) writes.now }

@@ -17,10 +17,10 @@ pub enum DiskFault {
 
 /// A disk of sectors of `SECTOR_BYTES` bytes, numbered from 0.
 ///
-/// A write reaches the medium at some time before the next successful sync, whole or not at all. So
-/// a stop before that sync may leave a sector with its synced content, or with any content that was
-/// written to it since. Clauses under `calls` hold for every disk. Clauses under `honest` hold for
-/// an honest disk, which is a disk that does what it reports.
+/// A write reaches the medium at some time before the next successful sync, completely or not at
+/// all. So a stop before that sync may leave a sector with its synced content, or with any content
+/// that was written to it since. Clauses under `calls` hold for every disk. Clauses under `honest`
+/// hold only for an honest disk: a disk that does what it reports.
 pub trait Disk {
     /// The facts about a disk, which clauses use.
     ghost facts: { Self → DiskFacts };
@@ -45,8 +45,8 @@ pub trait Disk {
         ensures honest { IsTrue (facts self.old).honest
             → IsWrite (facts self.old) (facts self.new) at from.now result };
 
-    /// Brings all written contents to the medium. If the result is `Err`, reads return what they
-    /// returned before, and a stop may leave no more than before.
+    /// Brings all written contents to the medium. If the result is `Err`, reads return the same
+    /// contents as before, and a stop may leave no other contents than before.
     fn sync(&mut self) -> Result<(), DiskFault>
         ensures calls { IsCall (facts self.old) (facts self.new) result }
         ensures honest { IsTrue (facts self.old).honest

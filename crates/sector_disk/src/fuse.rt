@@ -13,7 +13,7 @@ pub(crate) struct Plan {
     pub late: bool,
 }
 
-/// The outcome of a call: it passes, or it fails before or after it has reached the inner disk.
+/// The outcome of a call: it succeeds, or it fails before or after it has reached the inner disk.
 #[derive(Clone, Copy)]
 pub(crate) enum CallOutcome {
     Pass,
@@ -23,32 +23,34 @@ pub(crate) enum CallOutcome {
 
 /// A past call: whether it reached the inner disk, and whether it failed.
 #[derive(Clone, Copy)]
-pub(crate) struct Step {
+pub(crate) struct PastCall {
     pub reached: bool,
     pub failed: bool,
 }
 
-/// A disk that passes its calls on to an inner disk, and fails at planned calls. Reads return what
-/// the inner disk returns, and a stop may leave what a stop of the inner disk may leave.
+/// A disk that passes its calls on to an inner disk, and fails at planned calls. Reads return the
+/// contents that reads of the inner disk return. A stop may leave the contents that a stop of the
+/// inner disk may leave.
 pub struct Fuse<D> {
     inner: D,
     plan: Plan,
-    // The number of calls that are left up to the planned one, counting that one. After the planned
-    // call, the number is 0.
+    // The number of calls up to the planned one, including it. After the planned call, the number
+    // is 0.
     wait: u64,
-    past: Past<Step>,
+    past: Past<PastCall>,
     ghost waits: { wait ≡ plan.call - length past.items },
 }
 
 impl<D: Disk> Fuse<D> {
-    ghost use Rattle.std.specs.Prelude.{◌++◌, ◌∷◌, [], is_err};
+    ghost use Rattle.std.specs.Prelude.{◌++◌, ◌∷◌, [], is_err, Err, true, false};
+    ghost use Rattle.sector_disk.specs.declared.disk.DiskFault.TheVariants.{Failed};
     ghost use Rattle.sector_disk.specs.Disk.{IsSameDisk};
     ghost use Rattle.sector_disk.specs.Fuse.{fuse_facts, inner_of, plan_of, next_outcome};
 
-    /// Makes a fuse over `inner`. Its call number `k` fails: reads, writes and syncs are counted
-    /// together, from 1. If `forever` is true, all later calls fail too, without reaching `inner`.
-    /// If `late` is true, call number `k` reaches `inner` before it fails. If `k` is 0, a call
-    /// fails only if it fails on `inner`.
+    /// Makes a fuse over `inner`. Call number `k` of the fuse fails; reads, writes and syncs are
+    /// counted together, from 1. If `forever` is true, all later calls fail too, and don't reach
+    /// `inner`. If `late` is true, call number `k` reaches `inner` before it fails. If `k` is 0, a
+    /// call fails only if it fails on `inner`.
     pub fn new(inner: D, k: u64, forever: bool, late: bool) -> Fuse<D>
         ensures inner { inner_of result ≡ inner }
         ensures plan { plan_of result ≡ record { call = k; forever = forever; late = late } }
@@ -68,7 +70,7 @@ impl<D: Disk> Fuse<D> {
         }
     }
 
-    /// Returns the inner disk, as the calls that reached it left it.
+    /// Returns the inner disk, in the state after the calls that have reached it.
     pub fn into_inner(self) -> D
         ensures inner { result ≡ inner_of self }
         ensures same { IsSameDisk (fuse_facts D.facts self) (D.facts result) }
@@ -99,24 +101,48 @@ impl<D: Disk> Fuse<D> {
         }
     }
 
-    // Ends a call with `reply`. `reached` states whether the call reached the inner disk.
-    fn end_call(&mut self, reached: bool, reply: Result<(), DiskFault>) -> Result<(), DiskFault>
+    // Notes a call: adds it to the past, and counts it towards the planned one.
+    fn note(&mut self, call: PastCall)
+        ensures inner { self.new.inner ≡ self.old.inner }
+        ensures plan { self.new.plan ≡ self.old.plan }
+        ensures past { self.new.past.items ≡ self.old.past.items ++ call ∷ [] }
+    {
+        self.past = self.past.and(&call);
+        self.wait = self.wait.saturating_sub(1);
+    }
+
+    // Ends a call that has reached the inner disk. The call returns `reply`.
+    fn end_call(&mut self, reply: Result<(), DiskFault>) -> Result<(), DiskFault>
         ensures reply { result ≡ reply }
         ensures inner { self.new.inner ≡ self.old.inner }
         ensures plan { self.new.plan ≡ self.old.plan }
         ensures past { self.new.past.items
-            ≡ self.old.past.items ++ record { reached = reached; failed = is_err reply } ∷ [] }
+            ≡ self.old.past.items ++ record { reached = true; failed = is_err reply } ∷ [] }
     {
-        self.past = self.past.and(&Step {
-            reached,
+        self.note(PastCall {
+            reached: true,
             failed: reply.is_err(),
         });
-        self.wait = self.wait.saturating_sub(1);
         reply
+    }
+
+    // Ends a call that fails before it reaches the inner disk.
+    fn fail_early(&mut self) -> Result<(), DiskFault>
+        ensures reply { result ≡ Err Failed }
+        ensures inner { self.new.inner ≡ self.old.inner }
+        ensures plan { self.new.plan ≡ self.old.plan }
+        ensures past { self.new.past.items
+            ≡ self.old.past.items ++ record { reached = false; failed = true } ∷ [] }
+    {
+        self.note(PastCall {
+            reached: false,
+            failed: true,
+        });
+        Err(DiskFault::Failed)
     }
 }
 
-// This drop is written by hand, for the same reason as that of `Memory`.
+// This drop is written by hand for the same reason as the drop of `Memory`.
 impl<D: Drop> Drop for Fuse<D> {
     fn drop(self) {
         let Fuse {
@@ -162,12 +188,12 @@ impl<D: Disk> Disk for Fuse<D> {
         match self.next_outcome() {
             CallOutcome::Pass => {
                 let reply = self.inner.read(at, into);
-                self.end_call(true, reply)
+                self.end_call(reply)
             }
-            CallOutcome::Early => self.end_call(false, Err(DiskFault::Failed)),
+            CallOutcome::Early => self.fail_early(),
             CallOutcome::Late => {
                 let _ = self.inner.read(at, into);
-                self.end_call(true, Err(DiskFault::Failed))
+                self.end_call(Err(DiskFault::Failed))
             }
         }
     }
@@ -185,12 +211,12 @@ impl<D: Disk> Disk for Fuse<D> {
         match self.next_outcome() {
             CallOutcome::Pass => {
                 let reply = self.inner.write(at, from);
-                self.end_call(true, reply)
+                self.end_call(reply)
             }
-            CallOutcome::Early => self.end_call(false, Err(DiskFault::Failed)),
+            CallOutcome::Early => self.fail_early(),
             CallOutcome::Late => {
                 let _ = self.inner.write(at, from);
-                self.end_call(true, Err(DiskFault::Failed))
+                self.end_call(Err(DiskFault::Failed))
             }
         }
     }
@@ -206,12 +232,12 @@ impl<D: Disk> Disk for Fuse<D> {
         match self.next_outcome() {
             CallOutcome::Pass => {
                 let reply = self.inner.sync();
-                self.end_call(true, reply)
+                self.end_call(reply)
             }
-            CallOutcome::Early => self.end_call(false, Err(DiskFault::Failed)),
+            CallOutcome::Early => self.fail_early(),
             CallOutcome::Late => {
                 let _ = self.inner.sync();
-                self.end_call(true, Err(DiskFault::Failed))
+                self.end_call(Err(DiskFault::Failed))
             }
         }
     }

@@ -5,10 +5,10 @@ use crate::call_count::CallCount;
 use crate::disk::{Disk, DiskFault, SECTOR_BYTES};
 use crate::past::Past;
 
-/// A disk that isn't honest, for testing what is promised on any disk. Its reads return its answers
-/// in turn, whichever sector is read. After the last answer comes the first one again; if there are
-/// no answers, reads return zeros. Writes and syncs succeed and store nothing. No call fails or
-/// allocates memory.
+/// A disk that isn't honest, for tests of the promises for any disk. Its reads return its answers
+/// in turn; the number of the sector doesn't matter. After the last answer comes the first one
+/// again. If there are no answers, reads return zeros. Writes and syncs succeed and store nothing.
+/// No call fails or allocates memory.
 #[derive(Drop)]
 pub struct Liar {
     sectors: u32,
@@ -26,7 +26,7 @@ impl Liar {
     ghost use Rattle.sector_disk.specs.Liar.{liar_facts, answers_of, reads_of};
 
     /// Makes a disk of `sectors` sectors. Read number k, counted from 0, returns answer number k
-    /// modulo the number of answers. If there are no answers, reads return zeros.
+    /// modulo the number of answers, or zeros if there are no answers.
     pub fn new(sectors: u32, answers: Vec<[u8; SECTOR_BYTES]>) -> Liar
         ensures sectors { (liar_facts result).sectors ≡ sectors }
         ensures time { (liar_facts result).time ≡ 0 }

@@ -1,7 +1,7 @@
-//! A disk of sectors, and what a power cut may leave of it.
+//! A disk of sectors, and the contents that a power cut may leave on it.
 //!
-//! `Disk` is the one contract on which everything above relies. Until a sync succeeds, a stop may
-//! leave each sector with its synced content, or with any content that was written to it since.
+//! `Disk` is the only contract on which everything above it relies. Until a sync succeeds, a stop
+//! may leave each sector with its synced content, or with any content that was written to it since.
 //! `Memory` is such a disk in memory, which can be stopped at any moment. `Fuse` is a disk that
 //! fails at a planned call. `Liar` is a disk that returns planned answers and stores nothing.
 #![tactic(auto)]

@@ -1,4 +1,4 @@
-// A disk in memory. It keeps every write until it is stopped.
+// A disk in memory. It stores every write until it is stopped.
 ghost use Rattle.std.specs.Prelude.{◌≡◌, ◌<◌, ◌≤◌, ◌^◌, ℕ};
 ghost use Rattle.std.specs.Prelude.{length, All, drop, slice_index_or, IfOk, replicate};
 ghost use Rattle.sector_disk.specs.Disk.{IsWhole};
@@ -11,16 +11,16 @@ use crate::past::Past;
 use crate::written::Written;
 use std::alloc::{AllocError, Global};
 
-/// An honest disk in memory, which can be stopped at any moment. It keeps every write until it is
+/// An honest disk in memory, which can be stopped at any moment. It stores every write until it is
 /// stopped, so its memory grows with each write. A read, a write and `choices` take constant time.
-/// A sync is linear in the writes that it syncs.
+/// The time of a sync is linear in the writes that it syncs.
 pub struct Memory {
     start: Vec<[u8; SECTOR_BYTES]>,
     writes: Vec<Written>,
     synced: usize,
-    // The contents of `start` after `writes`, so that a read needn't go through the writes.
+    // The contents of `start` after `writes`. With them, a read takes constant time.
     latest: Vec<[u8; SECTOR_BYTES]>,
-    // For each sector, the number of its writes that aren't synced.
+    // For each sector, the number of its writes since the last sync.
     unsynced: Vec<usize>,
     past: Past<Moment>,
     ghost few: { length start.items < 2 ^ 32 },
@@ -59,7 +59,7 @@ impl Memory {
     }
 
     /// Makes a second disk with the same contents, choices and past. The time is linear in the
-    /// sectors and in all writes that were made.
+    /// sectors and in all writes to this disk.
     pub fn copy(&self) -> Result<Memory, AllocError>
         ensures ok { IfOk result (λ disk. IsCopy (memory_facts self.now) (memory_facts disk)) }
         ensures choices { IfOk result (KeepsChoices self.now) }
@@ -81,16 +81,16 @@ impl Memory {
         requires { at < (memory_facts self.now).sectors }
         ensures count { result ≡ length (memory_choices self.now at) }
 
-        // The choices are what a stop now may leave.
+        // The choices are the contents that a stop now may leave.
         ensures left { (c : Sector)
             → MayLeave (memory_facts self.now) at c ↔ Contains (memory_choices self.now at) c }
     {
         self.unsynced[at as usize] + 1
     }
 
-    /// Returns the disk after a stop. Each sector `at` that has `n` choices holds choice
-    /// `pick(at, n) % n`. Choice 0 is the synced content, and choice k is the k-th content that was
-    /// written since. The time is linear in the sectors and in all writes that were made.
+    /// Returns the disk after a stop. Each sector `at` that has `n` choices holds choice `pick(at,
+    /// n) % n`. Choice 0 is the synced content, and choice k is the k-th content that was written
+    /// since. The time is linear in the sectors and in all writes to this disk.
     pub fn stop<F: Fn(u32, usize) -> usize>(self, pick: F) -> Memory
         requires { (at : ℕ) → at < (memory_facts self).sectors
             → F.pre pick at (length (memory_choices self at)) }
@@ -121,7 +121,7 @@ impl Memory {
         }
     }
 
-    // Returns the present moment, as a successful call ends it.
+    // Returns the present moment, at the end of a successful call.
     fn moment(&self) -> Moment
         ensures { result ≡ record {
           writes = length self.now.writes.items;
@@ -137,8 +137,8 @@ impl Memory {
     }
 }
 
-// This drop is written by hand so that the fields are taken apart in one place. A derived drop
-// would be proved again on each way out of every function that has a disk.
+// This drop is written by hand so that it is proved only once. A derived drop would be proved again
+// on each way out of every function that has a disk.
 impl Drop for Memory {
     fn drop(self) {
         let Memory {
@@ -184,7 +184,7 @@ impl Disk for Memory {
         Ok(())
     }
 
-    /// Fails if memory is refused, and then changes nothing.
+    /// Fails if memory is refused, and in this case changes nothing.
     fn write(&mut self, at: u32, from: &[u8; SECTOR_BYTES]) -> Result<(), DiskFault>
         requires { at < (memory_facts self.old).sectors }
         ensures calls { IsCall (memory_facts self.old) (memory_facts self.new) result }

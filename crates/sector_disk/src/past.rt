@@ -1,11 +1,11 @@
-// A list that only clauses read. It has no bytes at run time.
+// A list for clauses only, without bytes at run time.
 ghost use Rattle.std.specs.Prelude.{◌≡◌, List, [], ◌∷◌, ◌++◌};
 ghost use Rattle.std.specs.Borrow.{ftrue};
 
 use std::marker::{Model, PhantomData};
 
-/// The items of the past, the oldest first. The list has no bytes at run time: only clauses read
-/// it.
+/// The items of the past, the oldest first. Only clauses read the list, and it has no bytes at run
+/// time.
 #[derive(Drop)]
 pub struct Past<A> {
     of: PhantomData<A>,
@@ -24,7 +24,7 @@ impl<A> Past<A> {
         Past { of: PhantomData }
     }
 
-    /// Returns the same past with `item` added at its end.
+    /// Returns the same past with `item` appended.
     pub fn and(&self, item: &A) -> Past<A>
         ensures { result.items ≡ self.now.items ++ item.now ∷ [] }
     {

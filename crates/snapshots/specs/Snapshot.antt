@@ -1,5 +1,5 @@
--- All byte strings of a store as they were at one moment: taking a snapshot of them, and releasing
--- it.
+-- All byte strings of a store as they were at one moment: the effects of taking a snapshot and of
+-- releasing it.
 use Rattle.std.specs.Prelude.{◌≡◌, ◌↔◌, ◌⊎◌, ℕ, ◌+◌, ◌-◌, ◌<◌, ◌==◌}
 use Rattle.std.specs.Prelude.{List, length, slice_index_or, IsTrue, Result, Err, IfOk, IfErr, OnErr}
 use Rattle.std.specs.List.{count_by}
@@ -47,13 +47,14 @@ pub record IsSnapshotOf {D : Type 0} (facts : D → DiskFacts) (taken now : Open
   pub preloads : snapshot.preloads ≡ listed_preloads taken.root
   pub libraries : (s : State) → IsAt facts taken s → IsTrue (facts now.disk).honest × AreHeldAs facts now snapshot.handles s.libraries
 
--- Either a snapshot of the store was taken, and each byte string has one more holder; or the call
--- refused, and the holders are as before. No call of the disk was made.
+-- A snapshot of the store was taken, and each byte string has one more holder; or the call refused,
+-- and the holders are the same as before. No call of the disk was made.
 pub record Takes {D : Type 0} (facts : D → DiskFacts) (old new : Opened D) (result : Result Taken StoreRefusal) : Type 0 where
   pub ok : IfOk result (λ snapshot. IsSnapshotOf facts old new snapshot)
   pub holders : IfOk result (λ snapshot. (sector : ℕ) → holders_of new.held sector ≡ holders_of old.held sector + times sector snapshot.handles)
   pub unheld : OnErr result ((sector : ℕ) → holders_of new.held sector ≡ holders_of old.held sector)
-  -- a refusal leaves exactly the same byte strings held, each by as many holders as before
+  -- after a refusal, exactly the same byte strings are held as before, each by the same number of
+  -- holders
   pub refused : OnErr result (KeepsHeld facts old new)
   pub others : (sector : ℕ) (library : Library) → HeldIs facts old sector library → HeldIs facts new sector library
   pub holds : (sector : ℕ) (placed : PlacedEntry) → IsHeldBy old.held sector placed → IsHeldBy new.held sector placed

@@ -1,4 +1,4 @@
 -- Definitions of the data that the code keeps while it runs. No public clause cites these
--- definitions, so no reader has to believe them.
+-- definitions, so a reader needn't check them.
 pub mod HoldsAll
 pub mod Places

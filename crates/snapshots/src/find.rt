@@ -12,12 +12,13 @@ ghost use Rattle.store.specs.inside.NameIndex.{IsPlace, order_to};
 use sector_disk::Disk;
 use store::{Held, Store};
 
-/// Returns the name of a held byte string, or the empty name if nobody holds it in this store.
+/// Returns the name of a held byte string, or the empty name if nobody holds the byte string in
+/// this store.
 pub(crate) fn held_name<'a, D: Disk>(store: &'a Store<D>, held: &Held) -> &'a [u8]
     ensures { (placed : PlacedEntry) → IsHeldBy store.now.held held.now placed
         → result.now ≡ name_of placed.entry }
 {
-    // A held byte string has a holder, so a byte string without a name is held by nobody.
+    // A held byte string has a holder, so a byte string without a name isn't held.
     store.holds_are_sound();
     match store.held_name(held) {
         Some(name) => name,
@@ -25,8 +26,8 @@ pub(crate) fn held_name<'a, D: Disk>(store: &'a Store<D>, held: &Held) -> &'a [u
     }
 }
 
-/// Returns the name of the held byte string at `position`. If there is no such byte string, returns
-/// the empty name.
+/// Returns the name of the held byte string at `position`, or the empty name if there is no such
+/// byte string.
 fn name_at<'a, D: Disk>(store: &'a Store<D>, handles: &[Held], position: u16) -> &'a [u8]
     ensures { (entries : List PlacedEntry) → AreHeldBy store.now.held handles.now entries
         → result.now ≡ name_at (entry_names entries) position }
@@ -45,7 +46,7 @@ fn precedes<D: Disk>(store: &Store<D>, handles: &[Held], position: u16, name: &[
     name_at(store, handles, position).cmp(name).is_lt()
 }
 
-/// Returns the place of `name` in the order: the number of names that come before `name`.
+/// Returns the place of `name` in the order: the number of names that come before it.
 fn place_of<D: Disk>(store: &Store<D>, handles: &[Held], order: &[u16], name: &[u8]) -> usize
     ensures { (entries : List PlacedEntry) → AreHeldBy store.now.held handles.now entries
         → IsOrderOf (entry_names entries) order.now
@@ -54,7 +55,7 @@ fn place_of<D: Disk>(store: &Store<D>, handles: &[Held], order: &[u16], name: &[
     order.partition_point(|position| precedes(store, handles, *position, name))
 }
 
-/// Returns the position of the handle whose byte string has the name `name`.
+/// Returns the position of the handle whose byte string has the name `name`, if there is one.
 pub(crate) fn find<D: Disk>(
     store: &Store<D>,
     handles: &[Held],

@@ -8,7 +8,7 @@ use sector_disk::Disk;
 use store::{Held, Store, StoreRefusal};
 
 /// Holds each byte string of a store, in the order of the positions, and puts the handles into the
-/// vector `room`. If a hold is refused, releases the byte strings that this call has held so far.
+/// vector `room`. If a hold is refused, releases the byte strings that this call has held.
 pub(crate) fn hold_all<D: Disk>(
     store: &mut Store<D>,
     room: Vec<Held>,
@@ -28,8 +28,8 @@ pub(crate) fn hold_all<D: Disk>(
             },
             Err(refusal) => {
                 release(store, handles);
-                // Each held byte string has one row. So exactly the byte strings that were held
-                // before are held now.
+                // Each held byte string has one row. For this reason, exactly the byte strings that
+                // were held before are held now.
                 store.holds_are_sound();
                 return Err(refusal);
             }

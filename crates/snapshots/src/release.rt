@@ -8,7 +8,7 @@ use store::{Held, Store};
 pub(crate) fn release<D: Disk>(store: &mut Store<D>, handles: Vec<Held>)
     ensures { LetsAllGo D.facts store.old store.new handles.items }
 {
-    // Each held byte string has a holder, also if there are no handles to release.
+    // Each held byte string has a holder, even if there are no handles to release.
     store.holds_are_sound();
     let mut left = handles;
     while let Some(held) = left.pop() {

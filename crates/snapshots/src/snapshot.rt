@@ -6,8 +6,9 @@ use std::alloc::Global;
 use std::marker::Model;
 use store::{Held, Store, StoreRefusal};
 
-/// All byte strings of a store as they were when the snapshot was taken, held one by one. Like a
-/// handle, a snapshot is valid only for its own store. It is valid until it is passed to `let_go`.
+/// All byte strings of a store as they were when the snapshot was taken. The snapshot has a handle
+/// for each of them. Like a handle, a snapshot is valid only for its own store, until it is passed
+/// to `let_go`.
 #[derive(Drop)]
 pub struct Snapshot {
     handles: Vec<Held>,
@@ -41,11 +42,11 @@ impl Snapshot {
     ghost use Rattle.store.specs.Stands.{name_of};
 
     /// Holds all byte strings of a store as they are now. Makes no call of the disk, and copies no
-    /// bytes. The snapshot's own memory is allocated before the first byte string is held.
+    /// bytes. Allocates the snapshot's own memory before it holds the first byte string.
     pub fn take<D: Disk>(alloc: Global, store: &mut Store<D>) -> Result<Snapshot, StoreRefusal>
         ensures { Takes D.facts store.old store.new result }
     {
-        // Also after a refusal, a held byte string is marked as listed if and only if the state
+        // Even after a refusal, a held byte string is marked as listed if and only if the state
         // lists it.
         store.holds_are_sound();
         let count = store.count();
@@ -71,7 +72,7 @@ impl Snapshot {
         self.handles.len()
     }
 
-    /// The positions of the preloads, in the order of the preloads.
+    /// The positions of the preloads, in the order in which they were chosen.
     pub fn preloads(&self) -> &[u16]
         ensures value { result.now ≡ self.now.preloads }
 
@@ -93,8 +94,9 @@ impl Snapshot {
         held_name(store, &self.handles[position])
     }
 
-    /// Returns the position of the byte string with the name `name`. Makes a binary search by name:
-    /// at most 13 comparisons, each with a look-up in the store's table of held byte strings.
+    /// Returns the position of the byte string with the name `name`, if there is one. Makes a
+    /// binary search by name: at most 13 comparisons, each of which looks up a name in the store's
+    /// table of held byte strings.
     pub fn position<D: Disk>(&self, store: &Store<D>, name: &[u8]) -> Option<usize>
         ensures within { IfSome result (λ i. i < length self.now.handles) }
         ensures few { length self.now.handles ≤ 2048 }
@@ -123,7 +125,7 @@ impl Snapshot {
     }
 
     /// Releases all byte strings of the snapshot. Allocates nothing and makes no call of the disk.
-    /// It also works after S2.
+    /// Also succeeds if an earlier call of the disk failed.
     pub fn let_go<D: Disk>(self, store: &mut Store<D>)
         ensures { LetsAllGo D.facts store.old store.new self.handles }
     {

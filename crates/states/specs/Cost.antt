@@ -6,7 +6,8 @@ use Rattle.extents.specs.Limits.{root_sectors}
 use Rattle.states.specs.Limits.{most_catalogue_entries}
 use Rattle.states.specs.State.{State}
 
--- the number of sectors that a file of `size` bytes costs: those of its bytes, and one for its entry
+-- the number of sectors that a file of `size` bytes takes: those of its bytes, and one for its
+-- entry
 abbrev pub cost : ℕ → ℕ
 cost size = div_ceil size sector_bytes + 1
 
@@ -14,8 +15,8 @@ cost size = div_ceil size sector_bytes + 1
 abbrev pub catalogues_for : ℕ → ℕ
 catalogues_for libraries = div_ceil libraries most_catalogue_entries
 
--- the number of sectors that a state takes: for its libraries, and twice for their catalogues, because a change
--- writes all catalogues again
+-- the number of sectors that a state takes: those of its libraries, and twice those of their
+-- catalogues, because a change writes all catalogues again
 abbrev pub taken_by : State → ℕ
 taken_by s = sum_by (λ l. cost (length l.bytes)) s.libraries + 2 * catalogues_for (length s.libraries)
 
@@ -24,6 +25,7 @@ taken_by s = sum_by (λ l. cost (length l.bytes)) s.libraries + 2 * catalogues_f
 abbrev pub free : ℕ → State → ℕ
 free sectors s = sectors - root_sectors - taken_by s
 
--- the number of additional sectors for catalogues if one library is added: twice the number of added catalogues
+-- the number of additional sectors that the catalogues take if one library is added: twice the
+-- number of additional catalogues
 abbrev pub catalogue_cost : ℕ → ℕ
 catalogue_cost libraries = 2 * (catalogues_for (libraries + 1) - catalogues_for libraries)

@@ -7,6 +7,6 @@ use Rattle.states.specs.Limits.{least_sectors}
 abbrev pub is_geometry : ℕ → Bool
 is_geometry sectors = nat_le least_sectors sectors && nat_le sectors most_sectors
 
--- a disk of `sectors` sectors can hold a state, as a premise of contracts
+-- the disk can hold a state, as a condition for contracts
 abbrev pub IsGeometry : ℕ → Type 0
 IsGeometry sectors = IsTrue (is_geometry sectors)

@@ -3,8 +3,8 @@ use Rattle.std.specs.Prelude.{ℕ, ◌+◌, ◌-◌, ◌==◌, Bool, nat_le, nat
 use Rattle.states.specs.Limits.{most_libraries, last_generation}
 use Rattle.states.specs.Cost.{cost, catalogue_cost}
 
--- what there is no room for: one more library (S9), one more generation (S10), sectors (S7), or sectors in few runs
--- (S8)
+-- the reasons why there is no room: no more libraries (S9), no more generations (S10), too few
+-- sectors (S7), or sectors in too many runs (S8)
 pub data RoomRefusal : Type 0 where
   TooMany : RoomRefusal
   GenerationEnd : RoomRefusal
@@ -16,24 +16,24 @@ pub record Room : Type 0 where
   pub generation : ℕ
   -- the number of libraries
   pub libraries : ℕ
-  -- the number of sectors that are free beside those for the catalogues of the next change
+  -- the number of free sectors, not counting those for the catalogues of the next change
   pub free : ℕ
   -- the number of sectors in the longest runs of unused sectors, with at most as many runs as a file may have extents
   pub longest : ℕ
 
--- whether the maximum number of libraries is reached
+-- the maximum number of libraries has been reached
 abbrev pub has_most : ℕ → Bool
 has_most libraries = nat_le most_libraries libraries
 
--- whether the generation is the greatest
+-- the generation is the greatest possible one
 abbrev pub is_last : ℕ → Bool
 is_last generation = generation == last_generation
 
--- whether a file of `size` bytes, and `more` sectors beside it, cost more sectors than are free
+-- a file of `size` bytes and `more` additional sectors take more sectors than are free
 abbrev pub is_full : (free more size : ℕ) → Bool
 is_full free more size = nat_lt free (cost size + more)
 
--- whether the longest runs of unused sectors are too short for the bytes of a file of `size` bytes
+-- the longest runs of unused sectors are too short for the bytes of a file of `size` bytes
 abbrev pub is_fragmented : (longest size : ℕ) → Bool
 is_fragmented longest size = nat_lt longest (cost size - 1)
 
@@ -41,9 +41,9 @@ is_fragmented longest size = nat_lt longest (cost size - 1)
 abbrev pub change_tests : (generation : ℕ) → List (Bool × RoomRefusal)
 change_tests generation = (is_last generation, GenerationEnd) ∷ []
 
--- The tests for S10, S7 and S8, in this order, of a file of `size` bytes that takes `more` sectors
--- beside its cost. If the file replaces another one, `more` is 0, because the number of catalogues stays
--- the same.
+-- The tests for S10, S7 and S8, in this order, of a file of `size` bytes that takes `more`
+-- additional sectors. If the file replaces another one, `more` is 0, because the number of
+-- catalogues stays the same.
 abbrev pub put_tests : Room → (more size : ℕ) → List (Bool × RoomRefusal)
 put_tests room more size = change_tests room.generation ++ (is_full room.free more size, Full) ∷ (is_fragmented room.longest size, Fragmented) ∷ []
 

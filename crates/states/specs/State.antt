@@ -1,4 +1,4 @@
--- The state of a registry: what a disk holds (own).
+-- The state of a registry, which a disk holds (own).
 use Rattle.std.specs.Prelude.{ℕ, List, [], map, Bool, bytes_eq}
 use Rattle.std.specs.List.{list_any}
 
@@ -9,7 +9,7 @@ pub record Library : Type 0 where
 
 -- a state: the libraries with their names and bytes, and the preloads among them
 pub record State : Type 0 where
-  -- the number of changes that were accepted since the disk was formatted
+  -- the number of changes since the disk was formatted
   pub generation : ℕ
   -- the libraries in the order in which they were installed
   pub libraries : List Library
@@ -24,6 +24,6 @@ empty_state = record { generation = 0; libraries = []; preloads = [] }
 abbrev pub names_of : List Library → List (List ℕ)
 names_of libraries = map (λ l. l.name) libraries
 
--- whether `name` is one of the names
+-- `name` is one of the names
 abbrev pub has_name : List (List ℕ) → List ℕ → Bool
 has_name names name = list_any (bytes_eq name) names

@@ -1,8 +1,8 @@
-//! The contents of a registry: its state, the states that changes make of it, its costs in sectors,
+//! The contents of a registry: its state, the states to which changes lead, its size in sectors,
 //! and its limits.
 //!
-//! Nearly all of this crate is definitions, in specs/. The store, the registry and the program cite
-//! them. The only call is `is_geometry`, which decides the sizes that a disk may have.
+//! Nearly all of this crate is definitions, in specs/, which the store, the registry and the
+//! program cite. The only call is `is_geometry`, which tests whether a disk may have a size.
 #![tactic(auto)]
 
 mod geometry;

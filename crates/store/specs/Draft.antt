@@ -28,19 +28,19 @@ use Rattle.roots.specs.declared.version.Version.TheVariants.{Two}
 use Rattle.store.specs.Stands.{Stands, catalogues_of, entries_cost, extents_of, library_of, name_of, names_at, no_library, sectors_of}
 use Rattle.store.specs.Taken.{IsTaken}
 
--- the data of an update: its store and its draft
+-- an update: its store and its draft
 pub record Drafted (D : Type 0) : Type 0 where
-  -- the store with the current state: a line of the update changes only its disk, and the flag whether a
-  -- call failed
+  -- the store with the current state; before the commit, the update changes only its disk, and the
+  -- flag whether a call failed
   pub store : Opened D
-  -- the draft's list: entries of the store, and others that the update wrote
+  -- the draft's list, which has entries of the store and entries that the update wrote
   pub entries : List PlacedEntry
   -- the positions of the draft's preloads in the draft's list
   pub preloads : List ℕ
   -- which part of the draft was changed
   pub touched : Touched
 
--- whether one of `entries` is in the sector of `placed`
+-- one of `entries` is in the sector of `placed`
 abbrev pub lists : List PlacedEntry → PlacedEntry → Bool
 lists entries placed = list_any (λ other. other.at == placed.at) entries
 
@@ -56,8 +56,8 @@ staged u = apart_from u.store.entries u.entries
 abbrev pub left_out : {D : Type 0} → Drafted D → List PlacedEntry
 left_out u = apart_from u.entries u.store.entries
 
--- the layout of the disk, in which exactly these sectors are claimed: those of the current state, of held byte
--- strings, and of the entries that the update wrote
+-- the layout of the disk in which the claimed sectors are exactly those of the current state, of
+-- held byte strings, and of the entries that the update wrote
 abbrev pub layout_drafted : {D : Type 0} → Drafted D → List Bool
 layout_drafted u = layout_of u.store.root.sectors (in_use u.store.root u.store.entries u.store.held ++ flat_map sectors_of (staged u))
 
@@ -65,9 +65,9 @@ layout_drafted u = layout_of u.store.root.sectors (in_use u.store.root u.store.e
 abbrev pub longest_drafted : {D : Type 0} → Drafted D → ℕ
 longest_drafted u = sector_count (longest_runs (layout_drafted u))
 
--- The number of sectors that the draft's state can't use. These are the sectors of the current entries that
--- aren't in the draft's list; the sectors that only holders use; and, if the current list has more
--- catalogues than the draft's list needs, two sectors for each catalogue too many.
+-- The number of sectors that the draft's state can't use: those of the current entries that aren't
+-- in the draft's list; those that only held byte strings use; and, if the current list has more
+-- catalogues than the draft's list needs, two sectors for each of these additional catalogues.
 abbrev pub beside : {D : Type 0} → Drafted D → ℕ
 beside u = entries_cost (left_out u) + length (lone_sectors u.store.held)
     + 2 * (length (catalogues_of u.store.root) - catalogues_for (length u.entries))
@@ -76,7 +76,8 @@ beside u = entries_cost (left_out u) + length (lone_sectors u.store.held)
 abbrev pub room_drafted : {D : Type 0} → Drafted D → ℕ
 room_drafted u = u.store.root.sectors - beside u
 
--- the state that the entries and preloads of a draft describe in the sectors `m`, with the generation `generation`
+-- the state with the generation `generation` that the entries and preloads of a draft describe, if
+-- the disk's sectors are `m`
 abbrev pub draft_state : List Sector → (generation : ℕ) → List PlacedEntry → (preloads : List ℕ) → State
 draft_state m generation entries preloads = record {
   generation = generation;
@@ -91,19 +92,20 @@ pub record IsDraftedAt {D : Type 0} (facts : D → DiskFacts) (u : Drafted D) (s
   pub spelt : All (λ placed. SpellsEntry (sector (facts u.store.disk).now placed.at) placed.entry) u.entries
   pub is : d ≡ draft_state (facts u.store.disk).now s.generation u.entries u.preloads
 
--- a draft's state after a change that makes the state `changed`: the libraries and preloads of `changed`, with the
--- draft's generation
+-- a draft's state after a change whose result is `changed`: the libraries and preloads of
+-- `changed`, with the draft's generation
 abbrev pub drafted : (d changed : State) → State
 drafted d changed = record { generation = d.generation; libraries = changed.libraries; preloads = changed.preloads }
 
--- the state after the commit of a draft: the draft's state with the next generation, or the current state if
--- nothing was changed
+-- the state after the commit of a draft: the current state if the draft has no change, and
+-- otherwise the draft's state with the next generation
 abbrev pub committed : Touched → (s d : State) → State
 committed Nothing s d = s
 committed touched s d = next s d.libraries d.preloads
 
--- the number of calls of a commit: none if nothing was changed; if only preloads were set, a write of
--- the root and a sync; otherwise a write for each catalogue, a sync, a write of the root, and a sync
+-- the number of calls of a commit: none if the draft has no change; if only the preloads were
+-- changed, a write of the root and a sync; otherwise a write for each catalogue, a sync, a write of
+-- the root, and a sync
 abbrev pub commit_calls : Touched → ℕ → ℕ
 commit_calls Nothing libraries = 0
 commit_calls Preloads libraries = 2
@@ -141,7 +143,7 @@ pub record IsSameDraft {D : Type 0} (old new : Drafted D) : Type 0 where
   pub preloads : new.preloads ≡ old.preloads
   pub touched : new.touched ≡ old.touched
 
--- On any disk, a line of an update made at most `most` calls, and refused only with refusals that
+-- On any disk, a change of a draft made at most `most` calls, and refused only with refusals that
 -- `Refuses` allows. A refusal leaves the draft unchanged.
 pub record IsLine {D : Type 0} (facts : D → DiskFacts) (old new : Drafted D) (most : ℕ) (Refuses : StoreRefusal → Type 0)
     (result : Result (Unit {0}) StoreRefusal) : Type 0 where
@@ -182,18 +184,19 @@ pub record IsDraftedOut {D : Type 0} (old new : Drafted D) (name : List ℕ) : T
   pub entries : new.entries ≡ remove old.entries position
   pub touched : new.touched ≡ Listed
 
--- the part of a draft that counts as changed after preloads were set: the list if it was changed before,
--- and otherwise the preloads
+-- the value of `touched` after preloads were set: `List` if the list was changed before, and
+-- otherwise `Preloads`
 abbrev pub touched_preloads : Touched → Touched
 touched_preloads Nothing = Preloads
 touched_preloads touched = touched
 
--- the store as if it listed the draft's entries
+-- the store as it would be if it listed the draft's entries
 abbrev pub listing : {D : Type 0} → Drafted D → Opened D
 listing u = record { disk = u.store.disk; root = u.store.root; entries = u.entries; held = u.store.held; failed = u.store.failed }
 
--- The byte string at `position` of the draft was read, as in a store that lists the draft's entries. Each
--- sector of the byte string was read once, and nothing was written.
+-- The byte string at `position` of the draft was read. Each sector of the byte string was read
+-- once, and nothing was written. The clauses are those of a read from a store that lists the
+-- draft's entries.
 pub record ReadsDraft {D : Type 0} (facts : D → DiskFacts) (old new : Drafted D) (position : ℕ) (result : Result (Vec ℕ) StoreRefusal) : Type 0 where
   pub read : ReadsBlob Two facts (listing old) (listing new) position result
   pub ok : (s d : State) → IsDraftedAt facts old s d → IfOk result (λ bytes. bytes.items ≡ (slice_index_or d.libraries position no_library).bytes)

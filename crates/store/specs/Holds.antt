@@ -1,4 +1,4 @@
--- Held byte strings: the sectors that they keep beside the state, the guarantees for their holders, and the
+-- Held byte strings: the sectors that only they use, the guarantees for their holders, and the
 -- effects of holding, reading and releasing a byte string.
 use Rattle.std.specs.Prelude.{◌≡◌, ◌≢◌, ◌↔◌, ◌⊎◌, ℕ, ◌+◌, ◌-◌, ◌<◌, ◌==◌, true, Bool, List, [], ◌++◌, length}
 use Rattle.std.specs.Prelude.{slice_index_or, sum_by, All, AllPairs, Contains, IsTrue, IsFalse, Result, Err, IfOk, IfErr, OnOk, OnErr, if◌then◌else◌}
@@ -20,16 +20,17 @@ use Rattle.store.specs.Opened.{Opened, IsAt}
 abbrev pub HaveOwnRows : List HeldRow → Type 0
 HaveOwnRows held = AllPairs (λ a b. a.placed.at ≢ b.placed.at) held
 
--- the sectors that a held byte string keeps beside the state: all its sectors if the state no longer lists
--- the byte string, and otherwise none
+-- the sectors that only a held byte string uses: all its sectors if the state no longer lists the
+-- byte string, and otherwise none
 abbrev pub own_sectors : HeldRow → List ℕ
 own_sectors hold = if hold.listed then [] else sectors_of hold.placed
 
--- the sectors that held byte strings keep beside the state, one by one
+-- the sectors that only held byte strings use, one by one
 abbrev pub lone_sectors : List HeldRow → List ℕ
 lone_sectors held = flat_map own_sectors held
 
--- all sectors in use after the roots, one by one: those that the state uses, and those that only holders use
+-- all sectors in use after the roots, one by one: those that the state uses, and those that only
+-- held byte strings use
 abbrev pub in_use : Root → List PlacedEntry → List HeldRow → List ℕ
 in_use root entries held = used root entries ++ lone_sectors held
 
@@ -37,12 +38,12 @@ in_use root entries held = used root entries ++ lone_sectors held
 abbrev pub layout_in_use : {D : Type 0} → Opened D → List Bool
 layout_in_use store = layout_of store.root.sectors (in_use store.root store.entries store.held)
 
--- the number of sectors that the state can use: all except those that only holders use
+-- the number of sectors that the state can use: all except those that only held byte strings use
 abbrev pub room_of : {D : Type 0} → Opened D → ℕ
 room_of store = store.root.sectors - length (lone_sectors store.held)
 
--- The number of holders of the byte string whose entry is in `sector`. As long as that byte string is held, no other
--- byte string has this entry sector.
+-- the number of holders of the byte string whose entry is in `sector`; no other held byte string
+-- has its entry in this sector
 abbrev pub holders_of : List HeldRow → ℕ → ℕ
 holders_of held sector = sum_by (λ hold. if hold.placed.at == sector then hold.holders else 0) held
 
@@ -79,16 +80,16 @@ KeepsHeld facts old new = KeepsHolders (facts old.disk) (facts new.disk) old.hel
 abbrev pub AreFlagged : {D : Type 0} → Opened D → Type 0
 AreFlagged store = All (λ hold. (hold.listed ≡ true) ↔ Contains store.entries hold.placed) store.held
 
--- Each held byte string has one row and at least one holder, and it is marked as listed if and only if
--- the state lists it. So the sectors that only holders use are those of the held byte strings that the
--- state no longer lists, each counted once.
+-- Each held byte string has one row and at least one holder, and it is marked as listed if and only
+-- if the state lists it. So the sectors that only held byte strings use are those of the rows that
+-- aren't marked, each counted once.
 pub record AreHolds {D : Type 0} (store : Opened D) : Type 0 where
   pub rows : HaveOwnRows store.held
   pub holders : (sector : ℕ) (placed : PlacedEntry) → IsHeldBy store.held sector placed → 0 < holders_of store.held sector
   pub flags : AreFlagged store
 
--- The byte string at `position` has one more holder, which holds the present bytes of the byte string. No
--- call of the disk is made, and no sector is claimed.
+-- The byte string at `position` has one more holder, for which its present bytes are kept. No call
+-- of the disk is made, and no sector is claimed.
 pub record TakesHold {D : Type 0} (facts : D → DiskFacts) (old new : Opened D) (position : ℕ) (result : Result ℕ StoreRefusal) : Type 0 where
   pub ok : (s : State) → IsAt facts old s → IfOk result (λ held. HeldIs facts new held (slice_index_or s.libraries position no_library))
   pub same : (s : State) → IsAt facts old s → IsAt facts new s
@@ -107,7 +108,7 @@ pub record TakesHold {D : Type 0} (facts : D → DiskFacts) (old new : Opened D)
 -- The held byte string was read. Each sector of the byte string was read once, and nothing was written. The
 -- call refuses with Damaged if nobody holds the byte string in this store.
 pub record ReadsHeld {D : Type 0} (facts : D → DiskFacts) (old new : Opened D) (held : ℕ) (result : Result (Vec ℕ) StoreRefusal) : Type 0 where
-  -- a stop at any moment leaves only contents that a stop could leave before
+  -- a stop at any moment leaves only contents that a stop could leave before the call
   pub any_moment : IsTrue (facts old.disk).honest → LeavesOnly (facts old.disk) (facts new.disk) (Mixture (facts old.disk))
   pub ok : IsTrue (facts old.disk).honest → (library : Library) → HeldIs facts old held library → IfOk result (λ bytes. bytes.items ≡ library.bytes)
   -- reads return the same contents as before, and a stop may leave the same contents as before
@@ -118,7 +119,7 @@ pub record ReadsHeld {D : Type 0} (facts : D → DiskFacts) (old new : Opened D)
   pub kept : (new.root ≡ old.root) × (new.entries ≡ old.entries) × (new.held ≡ old.held) × (new.failed ≡ old.failed)
   pub reopen : (result ≡ Err Reopen) ↔ IsTrue old.failed
   pub unknown : (result ≡ Err Damaged) ↔ (IsFalse old.failed × (holders_of old.held held ≡ 0))
-  -- a byte string that somebody holds is never refused with Damaged
+  -- a held byte string is never refused with Damaged
   pub known : (placed : PlacedEntry) → IsHeldBy old.held held placed → IfErr result (λ e. e ≢ Damaged)
   pub refusals : IfErr result (λ e. (e ≡ Device) ⊎ (e ≡ Reopen) ⊎ (e ≡ Damaged) ⊎ (e ≡ OutOfMemory))
   pub device : IfErr result (λ e. e ≡ Device → (facts old.disk).failures < (facts new.disk).failures)
@@ -128,7 +129,7 @@ pub record ReadsHeld {D : Type 0} (facts : D → DiskFacts) (old new : Opened D)
       → OnOk result (AreCallsExactly (div_ceil placed.entry.file_length sector_bytes) (facts old.disk) (facts new.disk))
   pub calls : (placed : PlacedEntry) → IsHeldBy old.held held placed
       → AreCallsAtMost (div_ceil placed.entry.file_length sector_bytes) (facts old.disk) (facts new.disk)
-  -- this clause also applies if nobody holds the byte string
+  -- this clause also holds if nobody holds the byte string
   pub called : AreCalls (facts old.disk) (facts new.disk)
 
 -- A holder released a byte string, and nothing else changed. If nobody held the byte string in this

@@ -1,4 +1,4 @@
--- The effect of reading byte strings of a store: the reads change nothing, whatever they return.
+-- The effect of reading byte strings of a store: no result of a read changes anything.
 use Rattle.std.specs.Prelude.{◌≡◌, ℕ, IsTrue}
 use Rattle.std.specs.Int.{div_ceil}
 use Rattle.sector_disk.specs.Disk.{sector_bytes, DiskFacts, Mixture, IsUnchanged, LeavesOnly, AreCalls}
@@ -12,8 +12,8 @@ use Rattle.store.specs.Opened.{Opened, IsAtBy}
 abbrev pub file_sectors : PlacedEntry → ℕ
 file_sectors placed = div_ceil placed.entry.file_length sector_bytes
 
--- The store was only read. The state that a store of this version is at, the mixtures that a stop
--- may leave, and the store's data in memory are as before.
+-- The store was only read. Its state in the version `version`, the mixtures that a stop may leave,
+-- and the store's data in memory are as before.
 pub record IsReadBy (version : Version) {D : Type 0} (facts : D → DiskFacts) (old new : Opened D) : Type 0 where
   pub leaves : IsTrue (facts old.disk).honest → LeavesOnly (facts old.disk) (facts new.disk) (Mixture (facts old.disk))
   pub same : (s : State) → IsAtBy version facts old s → IsAtBy version facts new s

@@ -13,12 +13,12 @@ use Rattle.store.specs.Opening.{RefusesLook, IsRefusalOfLook}
 use Rattle.store.specs.Stands.{Stands, StandsOld, StandsEither}
 use Rattle.states.specs.State.{State}
 
--- the store that was found, of either version
+-- the store that was found, of version 1 or 2
 abbrev pub seen : {D : Type 0} → Look D → Opened D
 seen (Current store) = store
 seen (Old store) = store
 
--- the disk of the store that was found, or the disk that was handed back
+-- the disk of the store that was found, or the disk that the refusal returned
 abbrev pub looked_after : {D : Type 0} → Result (Look D) (StoreRefusal × D) → D
 looked_after (Ok look) = (seen look).disk
 looked_after (Err refused) = refused.1
@@ -33,9 +33,9 @@ abbrev pub IsSeenOldAt : {D : Type 0} → (D → DiskFacts) → Look D → State
 IsSeenOldAt facts (Current store) s = ⊥
 IsSeenOldAt facts (Old store) s = IsOldAt facts store s
 
--- The store on the disk was found, or the disk was refused and handed back. Nothing was written.
+-- The store on the disk was found, or the disk was refused and returned. Nothing was written.
 pub record Looks {D : Type 0} (facts : D → DiskFacts) (disk : D) (looking : Result (Look D) (StoreRefusal × D)) : Type 0 where
-  -- a stop at any moment leaves only contents that a stop could leave before
+  -- a stop at any moment leaves only contents that a stop could leave before the call
   pub any_moment : IsTrue (facts disk).honest → LeavesOnly (facts disk) (facts (looked_after looking)) (Mixture (facts disk))
   -- reads return the same contents as before, even if a call fails
   pub now : IsTrue (facts disk).honest → (facts (looked_after looking)).now ≡ (facts disk).now

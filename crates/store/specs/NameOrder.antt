@@ -16,12 +16,13 @@ entry_names entries = map (λ placed. name_of placed.entry) entries
 abbrev pub name_at : List (List ℕ) → ℕ → List ℕ
 name_at names position = slice_index_or names position []
 
--- the comparison of the names at the positions `a` and `b`, byte by byte; a name is less than the longer
+-- the order of the names at the positions `a` and `b`, byte by byte; a name is less than the longer
 -- names that begin with it
 abbrev pub name_order : List (List ℕ) → ℕ → ℕ → Ordering
 name_order names a b = slice_cmp nat_cmp (name_at names a) (name_at names b)
 
--- `positions` contains each position of `names` once, in the order of the names. No name occurs twice.
+-- `positions` contains each position of `names` once, in the order of the names. No name occurs
+-- twice.
 pub record IsOrderOf (names : List (List ℕ)) (positions : List ℕ) : Type 0 where
   pub size : length positions ≡ length names
   pub within : All (λ position. position < length names) positions

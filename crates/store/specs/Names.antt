@@ -1,4 +1,4 @@
--- Which names and byte strings a store accepts, and which names it has.
+-- The names and byte strings that a store accepts, and the names that it has.
 use Rattle.std.specs.Prelude.{◌≡◌, ◌≢◌, ℕ, ◌<◌, List, length, slice_index_or, All}
 use Rattle.std.specs.Int.{IsInRange}
 use Rattle.roots.specs.Limits.{least_file_bytes, most_file_bytes, most_name_bytes}
@@ -8,7 +8,7 @@ use Rattle.store.specs.declared.placed_entry.PlacedEntry.{PlacedEntry}
 use Rattle.store.specs.Opened.{Opened}
 use Rattle.store.specs.Stands.{name_of}
 
--- these bytes can be a name: 1 to 240 visible characters, none of them `/`
+-- these bytes can be a name: 1 to 240 visible characters, none of which is `/`
 pub record IsName (name : List ℕ) : Type 0 where
   pub size : IsInRange 1 most_name_bytes (length name)
   pub bytes : All IsNameByte name

@@ -39,7 +39,7 @@ IsOldAt facts store s = IsAtBy One facts store s
 abbrev pub calls_to_open : {D : Type 0} → Opened D → ℕ
 calls_to_open store = 3 + length (catalogues_of store.root) + length store.entries
 
--- the disk of the store, or the disk that was handed back
+-- the disk of the store, or the disk that the refusal returned
 abbrev pub disk_after : {D : Type 0} → Result (Opened D) (StoreRefusal × D) → D
 disk_after (Ok store) = store.disk
 disk_after (Err refused) = refused.1

@@ -11,25 +11,26 @@ use Rattle.store.specs.Stands.{Stands}
 use Rattle.store.specs.declared.refusal.StoreRefusal.{StoreRefusal}
 use Rattle.store.specs.declared.refusal.StoreRefusal.TheVariants.{Device, OutOfMemory}
 
--- The disk was opened, or refused and handed back. `StandsFor` defines which state sectors hold, and `AtFor` defines
--- when a store is at a state.
+-- The disk was opened, or refused and returned. `StandsFor` defines which state sectors hold, and
+-- `AtFor` defines when a store is at a state.
 pub record Opens (StandsFor : List Sector → State → Type 0) {D : Type 0} (facts : D → DiskFacts) (AtFor : Opened D → State → Type 0)
     (disk : D) (opening : Result (Opened D) (StoreRefusal × D)) : Type 0 where
-  -- a stop at any moment leaves only contents that a stop could leave before
+  -- a stop at any moment leaves only contents that a stop could leave before the call
   pub any_moment : IsTrue (facts disk).honest → LeavesOnly (facts disk) (facts (disk_after opening)) (Mixture (facts disk))
   -- reads return the same contents as before, even if a call fails
   pub now : IsTrue (facts disk).honest → (facts (disk_after opening)).now ≡ (facts disk).now
   -- the log gets at most one sync, and nothing else
   pub log : IsTrue (facts disk).honest → MayAddSync (facts disk).log (facts (disk_after opening)).log
-  -- the sectors that reads return hold exactly one state, and the store is at this state: every mixture holds it too
+  -- the sectors that reads return hold exactly one state; the store is at this state, and every
+  -- mixture holds it too
   pub ok : IsTrue (facts disk).honest → IfOk opening (λ opened.
       (s : State) × StandsFor (facts disk).now s × AtFor opened s × ((other : State) → StandsFor (facts disk).now other → other ≡ s))
-  -- if these sectors hold a state, only a failed call or lack of memory is a reason to refuse
+  -- if these sectors hold a state, the disk is refused only if a call failed or memory was refused
   pub stands : IsTrue (facts disk).honest → (s : State) → StandsFor (facts disk).now s
       → MatchResult opening (λ opened. AtFor opened s) (λ e. (e.0 ≡ Device) ⊎ (e.0 ≡ OutOfMemory))
   pub refused : IsTrue (facts disk).honest → IfErr opening (λ e. RefusesOpen StandsFor (facts disk).now e.0)
 
--- The disk was opened from its entries only, or refused and handed back. No byte string was read, so the
+-- The disk was opened by its entries, or refused and returned. No byte string was read, so the
 -- result doesn't depend on the bytes of the byte strings.
 pub record OpensByEntries {D : Type 0} (facts : D → DiskFacts) (disk : D) (opening : Result (Opened D) (StoreRefusal × D)) : Type 0 where
   pub opened : Opens Stands facts (IsAt facts) disk opening

@@ -12,11 +12,11 @@ use Rattle.store.specs.Opened.{Opened, IsAtBy}
 use Rattle.store.specs.Stands.{no_library}
 use Rattle.states.specs.State.{State}
 
--- The byte string at `position` was read, in a store of the version `version`. Each sector of the byte
--- string was read once, and nothing was written.
+-- The byte string at `position` was read, in a store of the version `version`. Each sector of the
+-- byte string was read once, and nothing was written.
 pub record ReadsBlob (version : Version) {D : Type 0} (facts : D → DiskFacts) (old new : Opened D) (position : ℕ)
     (result : Result (Vec ℕ) StoreRefusal) : Type 0 where
-  -- a stop at any moment leaves only contents that a stop could leave before
+  -- a stop at any moment leaves only contents that a stop could leave before the call
   pub any_moment : IsTrue (facts old.disk).honest → LeavesOnly (facts old.disk) (facts new.disk) (Mixture (facts old.disk))
   pub ok : (s : State) → IsAtBy version facts old s → IfOk result (λ bytes. bytes.items ≡ (slice_index_or s.libraries position no_library).bytes)
   -- reads return the same contents as before, and a stop may leave the same contents as before

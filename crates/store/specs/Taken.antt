@@ -1,4 +1,4 @@
--- Which of the unused sectors a change takes for bytes, their entry and the catalogues.
+-- The unused sectors that a change takes for bytes, their entry and the catalogues.
 use Rattle.std.specs.Prelude.{◌≡◌, ℕ, ◌*◌, ◌<◌, Bool, true, List, [], ◌∷◌, ◌++◌, length, set}
 use Rattle.std.specs.Prelude.{slice_index_or, IsTrue}
 use Rattle.std.specs.Int.{div_ceil}
@@ -15,14 +15,14 @@ use Rattle.store.specs.Opened.{Opened}
 use Rattle.store.specs.Holds.{layout_in_use}
 use Rattle.store.specs.Stands.{name_of, extents_of, catalogues_of, used}
 
--- the sectors of the list are taken from this layout one after the other, and each is the lowest sector
--- that is unused then
+-- the sectors of the list are taken from this layout one after the other; each is the lowest sector
+-- that is unused at its turn
 abbrev pub AreTaken : List Bool → List ℕ → Type 0
 AreTaken layout [] = Unit
 AreTaken layout (k ∷ ks) = IsLowestUnused layout k × AreTaken (with_flag true (one_sector k) layout) ks
 
--- sectors of this layout are taken: first those of the extents, as `taken` chooses them; then the lowest
--- unused sector for the entry; and then the sectors of the catalogues
+-- sectors of this layout are taken: first those of the extents, which `taken` chooses; then the
+-- lowest unused sector, for the entry; and then the sectors of the catalogues
 pub record IsTaken (layout : List Bool) (need : ℕ) (extents : List Extent) (at : ℕ) (catalogues : List ℕ) : Type 0 where
   pub bytes : extents ≡ taken need layout
   pub entry : IsLowestUnused (with_flags true extents layout) at
@@ -34,15 +34,15 @@ HaveBytes disk extents bytes = (m : List Sector) → Mixture disk m
     → bytes_at m (places extents)
     ≡ padded (sector_bytes * div_ceil (length bytes) sector_bytes) bytes
 
--- One entry was appended to the list. The entry, its bytes and the catalogues are in sectors that weren't
--- in use.
+-- One entry was appended to the list. The sectors of the entry, of its bytes and of the catalogues
+-- weren't in use before.
 pub record IsPutBehind {D : Type 0} (facts : D → DiskFacts) (old new : Opened D)
     (bytes : List ℕ) : Type 0 where
   pub put : PlacedEntry
   pub taken : IsTaken (layout_in_use old) (div_ceil (length bytes) sector_bytes)
       (extents_of put.entry) put.at (catalogues_of new.root)
   pub entries : new.entries ≡ old.entries ++ put ∷ []
-  -- on an honest disk, the extents of the new entry then have the bytes
+  -- on an honest disk, the extents of the new entry have the bytes after the put
   pub written : IsTrue (facts old.disk).honest
       → HaveBytes (facts new.disk) (extents_of put.entry) bytes
 
@@ -51,8 +51,8 @@ pub record IsNamedAt {D : Type 0} (store : Opened D) (name : List ℕ) (position
   pub inside : position < length store.entries
   pub named : (d : PlacedEntry) → name_of (slice_index_or store.entries position d).entry ≡ name
 
--- another entry replaces the entry with the name `name`; the sectors of the new entry, of its bytes and
--- of the catalogues weren't in use
+-- an entry replaced the entry with the name `name`; the sectors of the new entry, of its bytes and
+-- of the catalogues weren't in use before
 pub record IsPutOver {D : Type 0} (facts : D → DiskFacts) (old new : Opened D)
     (name bytes : List ℕ) : Type 0 where
   pub position : ℕ
@@ -61,19 +61,19 @@ pub record IsPutOver {D : Type 0} (facts : D → DiskFacts) (old new : Opened D)
   pub taken : IsTaken (layout_in_use old) (div_ceil (length bytes) sector_bytes)
       (extents_of put.entry) put.at (catalogues_of new.root)
   pub entries : new.entries ≡ set old.entries position put
-  -- on an honest disk, the extents of the new entry then have the bytes
+  -- on an honest disk, the extents of the new entry have the bytes after the put
   pub written : IsTrue (facts old.disk).honest
       → HaveBytes (facts new.disk) (extents_of put.entry) bytes
 
--- The entry with this name was removed. The catalogues are in sectors that weren't in use, so none
--- of them is in a sector of that entry.
+-- The entry with this name was removed. The sectors of the catalogues weren't in use before, so
+-- none of them is a sector of the removed entry.
 pub record IsTakenOut {D : Type 0} (old new : Opened D) (name : List ℕ) : Type 0 where
   pub position : ℕ
   pub at : IsNamedAt old name position
   pub taken : AreTaken (layout_in_use old) (catalogues_of new.root)
   pub entries : new.entries ≡ remove old.entries position
 
--- Catalogues list the same entries as before. The catalogues are in sectors that weren't in use.
+-- Catalogues list the same entries as before. The sectors of the catalogues weren't in use before.
 pub record IsRelisted {D : Type 0} (old new : Opened D) : Type 0 where
   pub taken : AreTaken (layout_of old.root.sectors (used old.root old.entries)) (catalogues_of new.root)
   pub entries : new.entries ≡ old.entries

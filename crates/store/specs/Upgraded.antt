@@ -1,4 +1,4 @@
--- The result of upgrading a disk of either version.
+-- The result of upgrading a disk of version 1 or 2.
 use Rattle.std.specs.Prelude.{◌⊎◌, List}
 use Rattle.sector_disk.specs.Disk.{Sector, DiskFacts}
 use Rattle.states.specs.State.{State}
@@ -23,9 +23,9 @@ IsNotOld m = (s : State) → StandsOld m s → ⊥
 abbrev pub IsUpgradeOf : {D : Type 0} → (D → DiskFacts) → Opened D → List Sector → State → Type 0
 IsUpgradeOf facts store m s = (Stands m s × IsAt facts store s) ⊎ (StandsOld m s × IsAt facts store (upgraded s))
 
--- The store has the entries with which the sectors `m` held the state `s` by the rules of version 1. The
--- sectors of the store's catalogues weren't in use then: each catalogue was put into the lowest unused
--- sector.
+-- The store has the entries with which the sectors `m` held the state `s` by the rules of version
+-- 1. The sectors of the store's catalogues weren't in use then: each catalogue is in the lowest
+-- sector that was unused at its turn.
 pub record IsRelistedFrom {D : Type 0} (m : List Sector) (s : State) (store : Opened D) : Type 0 where
   pub root : Root
   pub stood : StandsBy One m root store.entries s

@@ -1,5 +1,5 @@
--- Definitions of the data that the code keeps while it runs. No public clause cites these definitions, so a
--- reader needn't check them.
+-- Definitions of the data that the code keeps while it runs. No public clause cites these
+-- definitions, so a reader needn't check them.
 pub mod Catalogues
 pub mod Change
 pub mod Claimed

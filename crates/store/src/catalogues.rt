@@ -20,8 +20,8 @@ use std::marker::Model;
 /// The maximum number of sectors that a change writes one by one: all catalogues and one entry.
 const MOST_SINGLES: usize = MOST_CATALOGUES + 1;
 
-/// The sectors that a change writes one by one, in the order of the writes. Their memory is kept
-/// from one change to the next, so that no change allocates memory for them.
+/// The sectors that a change writes one by one, in the order of the writes. The next change uses
+/// the same memory again, so that no change allocates memory for them.
 #[derive(Drop)]
 pub(crate) struct Singles {
     list: Vec<SingleSector>,
@@ -57,8 +57,8 @@ impl Singles {
         self.list.push_reserved(single);
     }
 
-    /// Appends the catalogues at the sectors `catalogues`. Together they list the entry sectors
-    /// `sectors`.
+    /// Appends the catalogues that are written to the sectors `catalogues`. Together they list the
+    /// entry sectors `sectors`.
     fn push_catalogues(&mut self, catalogues: &[u32], sectors: &[u32])
         requires parts { CanBeCatalogued (length catalogues.now) sectors.now }
         requires room { length self.old ≤ 1 }
@@ -72,8 +72,8 @@ impl Singles {
         }
     }
 
-    /// Replaces the list with the catalogues at `catalogues`, which list the entry sectors
-    /// `sectors`.
+    /// Replaces the list with the catalogues that are written to the sectors `catalogues`. Together
+    /// they list the entry sectors `sectors`.
     pub(crate) fn set_catalogues(&mut self, catalogues: &[u32], sectors: &[u32])
         requires { CanBeCatalogued (length catalogues.now) sectors.now }
         ensures places { single_places self.new ≡ catalogues.now }
@@ -85,8 +85,9 @@ impl Singles {
         self.push_catalogues(catalogues, sectors);
     }
 
-    /// Replaces the list with the sector of the entry `put`, followed by the catalogues at
-    /// `catalogues`, which list the entry sectors `sectors`.
+    /// Replaces the list with the sector of the entry `put` and, after it, the catalogues that are
+    /// written to the sectors `catalogues`. Together these catalogues list the entry sectors
+    /// `sectors`.
     pub(crate) fn set_put(&mut self, put: &PlacedEntry, catalogues: &[u32], sectors: &[u32])
         requires entry { EntryHasSpelling put.now.entry }
         requires sectors { CanBeCatalogued (length catalogues.now) sectors.now }
@@ -106,7 +107,7 @@ impl Singles {
     }
 }
 
-/// Returns the sector at `at` as a catalogue that lists the entry sectors `sectors`.
+/// Returns sector number `at` with a catalogue that lists the entry sectors `sectors`.
 fn catalogue_single(at: u32, sectors: &[u32]) -> SingleSector
     requires { SectorsFit sectors.now }
     ensures { result ≡ catalogue_single at sectors.now }

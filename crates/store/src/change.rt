@@ -18,7 +18,7 @@ use passes::{stage, switch_root};
 use roots::{Root, encode_root, slot_of};
 use sector_disk::{Disk, DiskFault};
 
-/// The part of a change that is staged in unused sectors.
+/// The part of a change that is written to unused sectors before the root is written.
 #[derive(Drop)]
 pub(crate) enum Staged {
     /// Nothing: everything that the change's root lists is already on the disk.
@@ -29,7 +29,7 @@ pub(crate) enum Staged {
     Put(PlacedEntry, CatalogueSectors),
 }
 
-/// A planned change: the part that is staged, and the root that is written after it.
+/// A planned change: its staged part, and the root that is written after this part.
 #[derive(Drop)]
 pub(crate) struct Change {
     pub staged: Staged,
@@ -49,7 +49,7 @@ fn write_staged<D: Disk>(
     ensures calls { AreCallsInRow (staged_calls staged.now)
         (D.facts disk.old) (D.facts disk.new) result }
 
-    // A stop at any moment changes only the staged sectors.
+    // A stop at any moment changes no sectors except the staged ones.
     ensures any_moment { IsTrue (D.facts disk.old).honest
         → LeavesOnly (D.facts disk.old) (D.facts disk.new)
         (IsMixtureBut (Contains (staged_sectors staged.now)) (D.facts disk.old)) }
@@ -57,7 +57,7 @@ fn write_staged<D: Disk>(
         → OnOk result ((m : List Sector) → Mixture (D.facts disk.new) m
         → IsStaged m staged.now bytes.now listed.now) }
 
-    // If anything is staged, the sync also covers earlier writes to other sectors.
+    // If anything is staged, the sync also puts earlier writes of other sectors on the medium.
     ensures written { IsTrue (D.facts disk.old).honest
         → OnOk result ((written : List PlacedEntry) → IsApartFrom staged.now written
         → HasSync staged.now written → (m : List Sector) → Mixture (D.facts disk.new) m
@@ -79,7 +79,7 @@ fn write_staged<D: Disk>(
 impl Change {
     /// Writes the staged sectors, with the bytes `bytes` and with catalogues that list the entry
     /// sectors `listed`. Then writes the change's root, and syncs. The current root may be of
-    /// either version.
+    /// version 1 or 2.
     pub(crate) fn carry_out<D: Disk>(
         &self,
         disk: &mut D,
@@ -100,8 +100,8 @@ impl Change {
             → OnOk result ((m : List Sector) → Mixture (D.facts disk.new) m
             → HasBytes m self.now.staged bytes.now) }
 
-        // Outside the root sectors and the staged sectors, a stop leaves only contents that a stop
-        // before the call could leave.
+        // In all sectors except the root sectors and the staged sectors, a stop leaves only
+        // contents that a stop before the call could leave.
         ensures others { IsTrue (D.facts disk.old).honest
             → (m : List Sector) → Mixture (D.facts disk.new) m
             → IsMixtureBut (IsRootOr (staged_sectors self.now.staged)) (D.facts disk.old) m }

@@ -1,4 +1,4 @@
-// Turns the store that was found on a disk of version 1 into a store of version 2.
+// Turns a store of version 1, which was found on a disk, into a store of version 2.
 use crate::change::{Change, Staged};
 use crate::next::next_root;
 use crate::old_store::OldStore;
@@ -22,12 +22,12 @@ impl<D: Disk> OldStore<D> {
     ghost use Rattle.store.specs.Step.{IsRefusalOfCommit};
     ghost use Rattle.store.specs.Upgraded.{upgraded};
 
-    /// Makes this store one of version 2, with the same byte strings and preloads: writes
+    /// Turns this store into a store of version 2 with the same byte strings and preloads: writes
     /// catalogues of these byte strings, and the next root. Refuses with S10 or S7 before the first
-    /// write, or with S1. A refusal hands the disk back. Allocates nothing.
+    /// write, or with S1. A refusal returns the disk too. Allocates nothing.
     pub fn commit(self) -> Result<Store<D>, (StoreRefusal, D)>
-        // A stop at any moment leaves the old state, by the rules of version 1, or the state after
-        // the commit.
+        // A stop at any moment leaves the old state, which version 1 holds, or the state after the
+        // commit.
         ensures any_moment { (s : State) → IsOldAt D.facts self s
             → LeavesOnly (D.facts self.disk) (D.facts (disk_after result))
             (λ m. StandsOld m s ⊎ Stands m (upgraded s)) }
@@ -39,7 +39,7 @@ impl<D: Disk> OldStore<D> {
         // The sectors of the new catalogues were unused before.
         ensures placed { IfOk result (λ store. IsRelisted self store) }
 
-        // These clauses hold on any disk, honest or not.
+        // The clauses from here on hold on any disk, honest or not.
         ensures unheld { IfOk result (λ store. store.held ≡ []) }
         ensures usable { IfOk result (λ store. IsFalse store.failed) }
         ensures refusals { IfErr result (λ e. IsRefusalOfCommit e.0) }

@@ -70,8 +70,9 @@ impl<D: Disk> Store<D> {
     ghost use Rattle.store.specs.Step.{refusal_of_change, IsExactAnswer, IsRefusalOfChange};
 
     /// Removes the byte string with the name `name`, which isn't a preload. The byte strings after
-    /// it move up, and the preloads keep their names. Allocates nothing, and never lacks sectors.
-    /// Refuses with S2, S10 or S1; only S1 may come after the first write.
+    /// it move up by one position, and the preloads keep their names. Allocates nothing, and takes
+    /// no sectors that it could lack. Refuses with S2, S10 or S1; only S1 may come after the first
+    /// write.
     pub fn delete(&mut self, name: &[u8]) -> Result<(), StoreRefusal>
         requires present { HasName self.old name.now }
         requires no_preload { IsNoPreload self.old name.now }
@@ -85,14 +86,14 @@ impl<D: Disk> Store<D> {
         ensures refused { (s : State) → IsAt D.facts self.old s
             → IsExactAnswer (refusal_of_change s) result }
 
-        // The catalogues of the remaining list are in sectors that were unused before.
+        // The catalogues of the remaining list are written to sectors that were unused before.
         ensures placed { OnOk result (IsTakenOut self.old self.new name.now) }
 
-        // Byte strings that somebody holds keep their holders and their bytes.
+        // Held byte strings keep their holders and their bytes.
         ensures held { KeepsHeld D.facts self.old self.new }
 
-        // This holds on any disk. After a failed call of the disk, the store has to be opened
-        // again.
+        // This clause holds on any disk, honest or not. After a failed call of the disk, the store
+        // has to be opened again.
         ensures on_any_disk { Changed D.facts StoreRefusal.Device StoreRefusal.Reopen
             self.old self.new (catalogues_for (length self.old.entries - 1) + 3)
             IsRefusalOfChange result }

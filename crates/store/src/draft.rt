@@ -1,4 +1,4 @@
-// The draft of an update: the list that the update has so far.
+// The draft of an update: the list that the update has made so far.
 ghost use Rattle.std.specs.Prelude.{◌≡◌, ◌<◌, ◌≤◌, ◌^◌, All, IfOk, length};
 ghost use Rattle.roots.specs.Entry.{EntryHasSpelling};
 ghost use Rattle.roots.specs.Root.{RootHasSpelling, listed_preloads};
@@ -19,14 +19,14 @@ use roots::Root;
 use states::MOST_PRELOADS;
 use std::alloc::{AllocError, Global};
 
-/// How much of the draft an update has changed so far.
+/// Which parts of the draft the update has changed so far.
 #[derive(Clone, Copy, PartialEq, Eq)]
 pub enum Touched {
-    /// Nothing: the commit writes nothing.
+    /// No part. The commit writes nothing.
     Nothing,
-    /// Only the preloads: the commit writes a root with the same catalogues.
+    /// Only the preloads. The commit writes a root with the same catalogues.
     Preloads,
-    /// The list of entries: the commit writes new catalogues and a root.
+    /// The list of entries. The commit writes new catalogues and a root.
     List,
 }
 
@@ -44,8 +44,8 @@ pub(crate) struct Draft {
     pub touched: Touched,
 }
 
-/// Returns whether the list `entries`, whose index is `index`, has the entry `placed` in the same
-/// sector.
+/// Returns whether the list `entries`, which has the index `index`, contains the entry `placed` in
+/// the same sector.
 pub(crate) fn has_entry(entries: &[PlacedEntry], index: &NameIndex, placed: &PlacedEntry) -> bool
     requires index { IsIndex entries.now index.now }
     requires spellings { HaveSpellings entries.now }
@@ -72,7 +72,7 @@ fn preloads_of(root: &Root) -> Preloads
     preloads
 }
 
-/// Returns `positions` as positions of preloads.
+/// Returns `positions` as a list of preloads.
 fn preloads_at(positions: &[usize]) -> Preloads
     requires few { length positions.now ≤ most_preloads }
     requires inside { All (λ position. position < 2 ^ 16) positions.now }
@@ -110,7 +110,7 @@ impl Draft {
         })
     }
 
-    /// Makes the change `edit` in the list. Allocates nothing.
+    /// Makes the change `edit` in the draft's list. Allocates nothing.
     pub(crate) fn edit(&mut self, edit: &Edit)
         requires sectors { CanEditSectors edit.now self.old.sectors }
         requires edit { CanEdit edit.now self.old.entries self.old.index.room }
@@ -129,7 +129,7 @@ impl Draft {
         self.touched = Touched::List;
     }
 
-    /// Makes the byte strings at `positions` the preloads.
+    /// Makes the byte strings at `positions` the draft's preloads.
     pub(crate) fn choose(&mut self, positions: &[usize])
         requires few { length positions.now ≤ most_preloads }
         requires inside { All (λ position. position < 2 ^ 16) positions.now }

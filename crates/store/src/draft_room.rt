@@ -48,9 +48,9 @@ fn spare_for(root: &Root, libraries: usize) -> usize
     standing + 2 * catalogues_for(libraries).saturating_sub(standing)
 }
 
-/// Frees the sectors that the store no longer uses once a draft's list is committed. These are the
-/// sectors of the catalogues, and those of the entries that the draft doesn't have, unless somebody
-/// holds them.
+/// Frees the sectors that the store no longer uses after the commit of a draft's list: the sectors
+/// of the old catalogues, and those of the entries that the draft doesn't have, unless they are
+/// held.
 fn release_unlisted(
     root: &Root,
     entries: &[PlacedEntry],

@@ -1,4 +1,4 @@
-// A change of the list of entries, and of everything that is kept about the list.
+// A change of the list of entries, of the order of the names, and of the claimed sectors.
 ghost use Rattle.std.specs.Prelude.{◌≡◌, ◌^◌, ◌<◌, length};
 ghost use Rattle.roots.specs.Root.{RootHasSpelling};
 ghost use Rattle.store.specs.inside.Edit.{CanEdit, CanEditSectors, ReleasesReplaced, IsWithin};
@@ -22,14 +22,14 @@ pub(crate) enum Edit {
     Nothing,
     /// The entry is put after all other entries.
     Append(PlacedEntry),
-    /// The entry takes the place of the entry at the position. Both have the same name.
+    /// The entry takes the place of the entry at the position, which has the same name.
     Replace(usize, PlacedEntry),
-    /// The entry at the position is removed, and those after it move up.
+    /// The entry at the position is removed, and the entries after it move up by one position.
     Remove(usize),
 }
 
 impl Edit {
-    /// Makes the change in the list of the entries' sectors. Allocates nothing.
+    /// Makes the change in `sectors`, the list of the entries' sectors. Allocates nothing.
     pub(crate) fn list(&self, sectors: &mut Vec<u32>)
         requires { CanEditSectors self.now sectors.old }
         ensures { sectors.new.items ≡ edited_by (λ placed. placed.at) self.now sectors.old.items }
@@ -44,7 +44,8 @@ impl Edit {
         }
     }
 
-    /// Makes the change in the list of entries and in the order of their names. Allocates nothing.
+    /// Makes the change in `entries`, the list of entries, and in `index`, the order of their
+    /// names. Allocates nothing.
     pub(crate) fn enter(&self, entries: &mut Vec<PlacedEntry>, index: &mut NameIndex)
         requires edit { CanEdit self.now entries.old index.old.room }
         requires index { IsIndex entries.old.items index.old }
@@ -67,9 +68,8 @@ impl Edit {
         }
     }
 
-    /// Frees the sectors that the state no longer uses once the change is made. These are the
-    /// sectors of the old catalogues, and those of the replaced or removed entry, unless somebody
-    /// holds its byte string.
+    /// Frees the sectors that the state no longer uses after the change: the sectors of the old
+    /// catalogues, and those of the replaced or removed entry, unless its byte string is held.
     pub(crate) fn release_replaced(
         &self,
         root: &Root,

@@ -28,8 +28,8 @@ use roots::{Root, Version, choose};
 use sector_disk::Disk;
 use std::alloc::Global;
 
-/// Syncs a disk that a stop may have left, and returns the disk's current root, which may be of
-/// either version.
+/// Syncs a disk, which a stop may have left, and returns the disk's current root, which may be of
+/// version 1 or 2.
 fn read_root<D: Disk>(disk: &mut D) -> Result<Root, StoreRefusal>
     requires { IsGeometry (D.facts disk.old).sectors }
     ensures calls { AreCallsAtMost 3 (D.facts disk.old) (D.facts disk.new) }
@@ -82,8 +82,8 @@ fn read_listed_entries<D: Disk>(
     read_entries(alloc, disk, &listed)
 }
 
-/// Returns the entries of a current root, with everything that is kept with them. Reads each
-/// catalogue and each entry once, and writes nothing.
+/// Returns the entries of the current root `root`, with the data that a store keeps with them.
+/// Reads each catalogue and each entry once, and writes nothing.
 fn find_entries<D: Disk>(
     alloc: Global,
     disk: &mut D,
@@ -109,7 +109,8 @@ fn find_entries<D: Disk>(
     FoundState::over(alloc, root, entries)
 }
 
-/// Returns the contents of a disk of either version, as a store keeps them. Writes nothing.
+/// Returns the contents of a disk of version 1 or 2, in the form in which a store keeps them.
+/// Writes nothing.
 pub(crate) fn find_store<D: Disk>(alloc: Global, disk: &mut D) -> Result<FoundState, StoreRefusal>
     requires { IsGeometry (D.facts disk.old).sectors }
     ensures finds { Finds (RefusesLook StandsEither) (D.facts disk.old) (D.facts disk.new) result }
@@ -121,8 +122,8 @@ pub(crate) fn find_store<D: Disk>(alloc: Global, disk: &mut D) -> Result<FoundSt
     find_entries(alloc, disk, root)
 }
 
-/// Returns the contents of a disk of version 2, as a store keeps them. Refuses with OldFormat if
-/// the current root is of version 1. Writes nothing.
+/// Returns the contents of a disk of version 2, in the form in which a store keeps them. Refuses
+/// with OldFormat if the current root is of version 1. Writes nothing.
 pub(crate) fn find_current<D: Disk>(alloc: Global, disk: &mut D) -> Result<FoundState, StoreRefusal>
     requires { IsGeometry (D.facts disk.old).sectors }
     ensures finds { Finds (RefusesOpen Stands) (D.facts disk.old) (D.facts disk.new) result }

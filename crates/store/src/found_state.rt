@@ -1,4 +1,4 @@
-// The contents of a disk, as a store keeps them in memory.
+// The contents of a disk, in the form in which a store keeps them in memory.
 ghost use Rattle.std.specs.Prelude.{◌≡◌, ◌⊎◌, [], IfOk, IfErr, length, false};
 ghost use Rattle.roots.specs.Root.{RootHasSpelling, version_of};
 ghost use Rattle.roots.specs.declared.version.Version.TheVariants.{Two};
@@ -19,7 +19,7 @@ use roots::Root;
 use sector_disk::Disk;
 use std::alloc::{AllocError, Global};
 
-/// The contents of a disk, as a store keeps them in memory.
+/// The contents of a disk, in the form in which a store keeps them in memory.
 #[derive(Drop)]
 pub(crate) struct FoundState {
     pub root: Root,
@@ -74,8 +74,7 @@ impl FoundState {
         })
     }
 
-    /// Makes a store of version 2 from these contents and the disk `disk`, on which they were
-    /// found.
+    /// Makes a store of version 2 from these contents, which were found on the disk `disk`.
     pub(crate) fn into_store<D: Disk>(self, alloc: Global, disk: D) -> Store<D>
         requires version { version_of self.root ≡ Two }
         requires found { IsFound self.root self.entries.items self.sectors.items

@@ -8,9 +8,9 @@ use sector_disk::Disk;
 use std::alloc::Global;
 use std::marker::Model;
 
-/// A holder's right to read a byte string as it was, until the holder passes the handle to
-/// `Store::let_go`. A handle can't be made or copied. If a handle is dropped, the sectors of its
-/// byte string stay in use until the store is opened again.
+/// A holder's right to read a byte string as it was when the hold began, until the holder passes
+/// the handle to `Store::let_go`. A program can't make or copy a handle. If a handle is dropped,
+/// the sectors of its byte string stay in use until the store is opened again.
 #[derive(Drop)]
 pub struct Held {
     // The sector of the byte string's entry.
@@ -33,8 +33,8 @@ impl<D: Disk> Store<D> {
     ghost use Rattle.store.specs.Stands.{name_of};
 
     /// Makes the caller a holder of the byte string at `position`, with its present bytes. Makes no
-    /// call of the disk, and copies no bytes. The first holder of a byte string allocates memory,
-    /// and later holders don't. Refuses with S2 or S11.
+    /// call of the disk, and copies no bytes. Allocates memory only for the first holder of a byte
+    /// string. Refuses with S2 or S11.
     pub fn hold(&mut self, position: usize) -> Result<Held, StoreRefusal>
         requires { position < length self.old.entries }
         ensures { TakesHold D.facts self.old self.new position result }
@@ -47,8 +47,8 @@ impl<D: Disk> Store<D> {
         Ok(Held { at: placed.at })
     }
 
-    /// Returns the name of the held byte string, or None if nobody holds it in this store. Makes no
-    /// call of the disk.
+    /// Returns the name of the held byte string, or `None` if nobody holds it in this store. Makes
+    /// no call of the disk.
     pub fn held_name(&self, held: &Held) -> Option<&[u8]>
         ensures none { IsNone result ↔ (holders_of self.now.held held.now ≡ 0) }
         ensures some { IfSome result (λ name. (placed : PlacedEntry)
@@ -59,11 +59,11 @@ impl<D: Disk> Store<D> {
     }
 
     /// Returns the byte string of the handle `held`. Reads each of its sectors once, and writes
-    /// nothing. Refuses with S2, S11 or S1. If nobody holds the byte string in this store, refuses
-    /// with Damaged, without a call of the disk: then the handle comes from another store, or from
-    /// before the disk was opened again. A handle identifies only the sector of an entry. So a
-    /// handle from elsewhere reads another byte string, if somebody holds one in this store whose
-    /// entry is in that sector.
+    /// nothing. Refuses with S2, S11 or S1. Refuses with Damaged, without a call of the disk, if
+    /// nobody holds the byte string in this store; this means that the handle comes from another
+    /// store, or from before the disk was opened again. A handle identifies only the sector of an
+    /// entry. So a handle from elsewhere reads the byte string that is held in this store by that
+    /// sector, if there is one.
     pub fn read_held(&mut self, alloc: Global, held: &Held) -> Result<Vec<u8>, StoreRefusal>
         ensures { ReadsHeld D.facts self.old self.new held.now result }
     {
@@ -77,9 +77,10 @@ impl<D: Disk> Store<D> {
     }
 
     /// Releases a held byte string. If this was its last holder and the state no longer lists it,
-    /// its sectors become unused. Makes no call of the disk and allocates nothing. It also works
-    /// after S2. If nobody holds the byte string in this store, does nothing. Treats a handle of
-    /// another store, or one from before the disk was opened again, as `read_held` does.
+    /// its sectors become unused. Makes no call of the disk and allocates nothing. Also succeeds if
+    /// an earlier call of the disk failed. If nobody holds the byte string in this store, does
+    /// nothing. A handle from another store, or from before the disk was opened again, has the same
+    /// effect as in `read_held`.
     pub fn let_go(&mut self, held: Held)
         ensures { LetsHoldGo D.facts self.old self.new held }
     {

@@ -20,8 +20,8 @@ pub struct HeldRow {
     pub listed: bool,
 }
 
-/// The held byte strings, one row for each. A row is found by the sector of its entry, and the rows
-/// are in the order of these sectors.
+/// The held byte strings, one row for each, in the order of the sectors of their entries. These
+/// sectors identify the rows.
 #[derive(Drop)]
 pub(crate) struct Holds {
     rows: BTreeMap<u32, HeldRow>,
@@ -93,8 +93,8 @@ impl Holds {
         Ok(())
     }
 
-    /// Notes that the state no longer lists the byte string whose entry is in `sector`. Returns
-    /// whether the byte string is held.
+    /// Marks the byte string whose entry is in `sector` as no longer listed by the state, if it is
+    /// held. Returns whether it is held.
     pub(crate) fn leave(&mut self, sector: u32) -> bool
         ensures no { IsFalse result → (IsUnheld self.old sector) × (self.new ≡ self.old) }
         ensures yes { IsTrue result → IsLeft self.old self.new sector }
@@ -106,8 +106,8 @@ impl Holds {
         true
     }
 
-    /// Takes one holder from the byte string whose entry is in `sector`. If this was the last
-    /// holder, removes the row of the byte string and returns this row. Allocates nothing.
+    /// Removes one holder from the byte string whose entry is in `sector`. If this was the last
+    /// holder, removes the byte string's row and returns the row. Allocates nothing.
     pub(crate) fn let_go(&mut self, sector: u32) -> Option<HeldRow>
         ensures none { IsNone result → (IsHeldLess self.old self.new sector)
             ⊎ ((IsUnheld self.old sector) × (self.new ≡ self.old)) }

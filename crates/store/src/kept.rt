@@ -11,15 +11,14 @@ use roots::Root;
 pub(crate) struct Kept {
     pub root: Root,
     pub entries: Vec<PlacedEntry>,
-    /// The sectors of the entries, in the order of the entries. This holds as long as no change has
-    /// failed.
+    /// The sectors of the entries, in the order of the entries, as long as no change has failed.
     pub sectors: Vec<u32>,
     /// Room for the sectors that a change writes one by one.
     pub singles: Singles,
     pub index: NameIndex,
     pub held: Holds,
     pub layout: Layout,
-    /// Whether a write or a sync has failed. Then the disk has to be opened again to find out which
-    /// state it holds.
+    /// Whether a write or a sync has failed. If so, the state that the disk holds is unknown until
+    /// the disk is opened again.
     pub failed: bool,
 }

@@ -3,9 +3,10 @@
 //! `Store::format` makes a store on a disk, and `Store::open` opens it again after a stop at any
 //! moment. `put_new` puts a byte string after all other byte strings, `put_over` replaces the bytes
 //! under a name, `delete` removes a byte string, and `set_preloads` chooses the preloads.
-//! `Store::look` finds the store on a disk of either version, and `OldStore::commit` turns a disk
-//! of version 1 into one of version 2. `Store::update` begins an update: several changes of a
-//! draft, and one commit. specs/Stands.antt defines which state a list of sectors holds.
+//! `Store::look` finds the store on a disk of version 1 or 2, and `OldStore::commit` turns a disk
+//! of version 1 into one of version 2. `Store::update` begins an update, which makes several
+//! changes of a draft, and then commits them together. specs/Stands.antt defines which state a list
+//! of sectors holds.
 #![tactic(auto)]
 
 mod catalogues;

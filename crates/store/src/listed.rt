@@ -1,4 +1,4 @@
-// Reads the list of entries. A root of version 1 lists the entries itself; a root of version 2
+// Reads the list of entries. A root of version 1 lists the entries itself. A root of version 2
 // lists catalogues, which list the entries.
 ghost use Rattle.std.specs.Prelude.{◌≡◌, ◌<◌, ◌↔◌, ℕ, All, List, Some, IsTrue, IfOk, IfErr};
 ghost use Rattle.std.specs.Prelude.{OnOk, length};
@@ -27,13 +27,14 @@ pub(crate) fn catalogues(root: &Root) -> &[u32]
     }
 }
 
-/// Reads sector `at`, and returns the catalogue that the sector encodes, if there is one.
+/// Reads sector `at`, and returns the catalogue that the sector encodes, or `None` if it encodes
+/// none.
 fn read_catalogue<D: Disk>(disk: &mut D, at: u32) -> Result<Option<Catalogue>, DiskFault>
     requires { at < (D.facts disk.old).sectors }
     ensures calls { IsCall (D.facts disk.old) (D.facts disk.new) result }
 
-    // On any disk, the catalogue is the one that some content encodes. On an honest disk, this
-    // content is that of sector `at`.
+    // On any disk, some content encodes the returned catalogue. On an honest disk, this is the
+    // content of sector `at`.
     ensures catalogue { (content : Sector) × IfOk result (λ found. (catalogue : Catalogue)
         → (found ≡ Some catalogue) ↔ SpellsCatalogue content catalogue)
         × (IsTrue (D.facts disk.old).honest
@@ -45,8 +46,8 @@ fn read_catalogue<D: Disk>(disk: &mut D, at: u32) -> Result<Option<Catalogue>, D
 }
 
 /// Returns the sectors of the entries that a root's catalogues list, in the order of the list.
-/// Reads each catalogue once. Refuses with Damaged if a catalogue doesn't decode, or doesn't list
-/// the number of entries that it must list.
+/// Reads each catalogue once. Refuses with Damaged if a sector that the root lists encodes no
+/// catalogue, or a catalogue with another number of entries than it must list.
 fn read_catalogues<D: Disk>(
     alloc: Global,
     disk: &mut D,
@@ -93,7 +94,7 @@ fn are_inside(listed: &[u32], sectors: u32) -> bool
 }
 
 /// Returns the sectors of the entries that a root lists, in the order of the list. Reads each
-/// catalogue once. Refuses with Damaged if one of these sectors doesn't lie on the disk.
+/// catalogue once. Refuses with Damaged if one of these sectors isn't on the disk.
 pub(crate) fn read_listed<D: Disk>(
     alloc: Global,
     disk: &mut D,

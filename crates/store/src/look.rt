@@ -1,4 +1,4 @@
-// Finds the store on a disk of either version.
+// Finds the store on a disk of version 1 or 2.
 use crate::find::find_store;
 use crate::old_store::OldStore;
 use crate::refusal::StoreRefusal;
@@ -8,7 +8,7 @@ use sector_disk::Disk;
 use states::is_geometry;
 use std::alloc::Global;
 
-/// The store on a disk, by the version of the disk's current root.
+/// The store on a disk. Its version is that of the disk's current root.
 pub enum Look<D: Disk> {
     /// A store of version 2.
     Current(Store<D>),
@@ -19,9 +19,9 @@ pub enum Look<D: Disk> {
 impl<D: Disk> Store<D> {
     ghost use Rattle.store.specs.Looked.{Looks};
 
-    /// Finds the store on a disk, of version 2 or of version 1, also after a stop. Syncs, and reads
-    /// the two root sectors, each catalogue, and one sector for each entry. Writes nothing. Refuses
-    /// with S6, S3, S5, S11 or S1, and then hands the disk back.
+    /// Finds the store on a disk of version 1 or 2, also after a stop. Syncs, and reads the two
+    /// root sectors, each catalogue, and one sector for each entry. Writes nothing. Refuses with
+    /// S6, S3, S5, S11 or S1, and then also returns the disk.
     pub fn look(alloc: Global, disk: D) -> Result<Look<D>, (StoreRefusal, D)>
         ensures { Looks D.facts disk result }
     {

@@ -1,5 +1,5 @@
-// The order of the entries' names, for binary searches. A guess of each name's position finds most
-// names without a search.
+// The order of the entries' names, for binary searches. A table of guesses finds most names without
+// a search.
 ghost use Rattle.std.specs.Prelude.{◌≡◌, ◌≢◌, ◌<◌, ◌≤◌, ◌^◌, ◌↔◌, [], ◌∷◌, ◌++◌, All, IsNone};
 ghost use Rattle.std.specs.Prelude.{IsTrue, IfOk, IfSome, OnOk, OnErr, length, map, slice_index_or};
 ghost use Rattle.std.specs.List.{range_with_len, remove};
@@ -16,16 +16,16 @@ use std::alloc::{AllocError, Global};
 use std::cmp::Ordering;
 use std::marker::Model;
 
-/// The number of guesses that are kept: twice the maximum number of entries.
+/// The number of guesses in the table: twice the maximum number of entries.
 const GUESSES: usize = 4096;
 
 /// The positions of entries in the order of their names.
 #[derive(Drop)]
 pub(crate) struct NameIndex {
     positions: Vec<u16>,
-    // For the sum of a name, the position at which a name with this sum was put last. A guess may
-    // be wrong, so the name at its position is compared before the position is returned. No guess
-    // is corrected when an earlier entry is removed.
+    // For each sum of a name, the position at which a name with this sum was last put. A guess may
+    // be wrong, so the name at its position is compared before the position is returned. When an
+    // entry is removed, the guesses for the entries after it aren't corrected.
     guesses: Vec<u16>,
 }
 
@@ -68,8 +68,8 @@ fn precedes(entries: &[PlacedEntry], position: u16, name: &[u8]) -> bool
     name_at(entries, position).cmp(name).is_lt()
 }
 
-/// Returns a sum over the bytes of a name: the place of the name's guess. Adds eight bytes at a
-/// time to be fast, because a file decides how many names are looked up and how long they are.
+/// Returns a sum of the bytes of a name: the place of the name's guess in the table. Adds eight
+/// bytes at a time, because a file may look up many long names.
 fn guess_place(name: &[u8]) -> usize {
     let (words, rest) = name.as_chunks::<8>();
     let mut sum = 0u64;
@@ -82,7 +82,7 @@ fn guess_place(name: &[u8]) -> usize {
     (sum >> 52) as usize
 }
 
-/// Notes the guess that `name` is at `position`.
+/// Stores the guess that `name` is at `position`.
 fn note_guess(guesses: &mut Vec<u16>, name: &[u8], position: u16) {
     if let Some(guess) = guesses.get_mut(guess_place(name)) {
         *guess = position;
@@ -110,7 +110,7 @@ fn all_positions(alloc: Global, count: usize) -> Result<Vec<u16>, AllocError>
     (0..count as u16).collect(alloc)
 }
 
-/// Returns all positions in the order of their names. A name may occur twice.
+/// Returns all positions in the order of their names. The same name may occur twice.
 fn sorted_positions(alloc: Global, entries: &[PlacedEntry]) -> Result<Vec<u16>, AllocError>
     requires spellings { HaveSpellings entries.now }
     requires few { length entries.now < 2 ^ 16 }
@@ -122,7 +122,7 @@ fn sorted_positions(alloc: Global, entries: &[PlacedEntry]) -> Result<Vec<u16>, 
     Ok(positions)
 }
 
-/// Returns whether each name comes before the next one.
+/// Returns whether the name at each position comes before the name at the next one.
 fn is_sorted(entries: &[PlacedEntry], positions: &[u16]) -> bool
     requires { HaveSpellings entries.now }
     ensures { IsTrue result ↔ Rises (entry_names entries.now) positions.now }
@@ -135,8 +135,8 @@ fn is_sorted(entries: &[PlacedEntry], positions: &[u16]) -> bool
     true
 }
 
-/// Returns what `position` becomes when the entry at `gone` is removed: the entries after it move
-/// up.
+/// Returns the new value of `position` after the entry at `gone` was removed: the entries after
+/// `gone` move up by one position.
 fn closed_up(gone: u16, position: u16) -> u16
     ensures { result ≡ closed_up gone position }
 {
@@ -147,7 +147,8 @@ fn closed_up(gone: u16, position: u16) -> u16
     }
 }
 
-/// Adapts positions of entries to the removal of the entry at `gone`: the entries after it move up.
+/// Adapts positions of entries to the removal of the entry at `gone`: the entries after it move up
+/// by one position.
 pub(crate) fn close_up(positions: &mut [u16], gone: u16)
     ensures { positions.new ≡ map (closed_up gone) positions.old }
 {
@@ -167,7 +168,7 @@ impl NameIndex {
         }
     }
 
-    /// Makes the order of the entries' names. Returns None if a name occurs twice.
+    /// Makes the order of the entries' names. Returns `None` if a name occurs twice.
     pub(crate) fn over(
         alloc: Global,
         entries: &[PlacedEntry],
@@ -215,7 +216,8 @@ impl NameIndex {
             .partition_point(|position| precedes(entries, *position, name))
     }
 
-    /// Returns the position that is guessed for `name`, if the guess is right.
+    /// Returns the position that the table guesses for `name`, if the entry at this position has
+    /// the name.
     fn guessed(&self, entries: &[PlacedEntry], name: &[u8]) -> Option<usize>
         requires spellings { HaveSpellings entries.now }
         ensures some { IfSome result (λ i. (i < length entries.now)
@@ -230,7 +232,7 @@ impl NameIndex {
     }
 
     /// Returns the position of the entry with the name `name`. If the guess is wrong, makes a
-    /// binary search: at most 12 comparisons, and one with the name at which the search ends.
+    /// binary search: at most 12 comparisons, and then one with the name at which the search ends.
     pub(crate) fn position_of(&self, entries: &[PlacedEntry], name: &[u8]) -> Option<usize>
         requires index { IsIndex entries.now self.now }
         requires spellings { HaveSpellings entries.now }
@@ -253,7 +255,7 @@ impl NameIndex {
         }
     }
 
-    /// Makes room for one more position, unless there is room already.
+    /// Makes room for one more position, unless there already is room.
     pub(crate) fn reserve(&mut self) -> Result<(), AllocError>
         ensures positions { self.new.positions ≡ self.old.positions }
         ensures ok { OnOk result (1 ≤ self.new.room) }
@@ -280,7 +282,7 @@ impl NameIndex {
         }
     }
 
-    /// Removes the entry at `position`. The entries after it move up.
+    /// Removes the entry at `position`. The entries after it move up by one position.
     pub(crate) fn remove(&mut self, entries: &[PlacedEntry], position: usize)
         requires index { IsIndex entries.now self.old }
         requires spellings { HaveSpellings entries.now }

@@ -47,8 +47,9 @@ pub(crate) fn next_root(root: &Root, libraries: usize, catalogues: &[u32]) -> Ro
     )
 }
 
-/// Returns the next root after the library at `gone` was removed. It counts `libraries` libraries
-/// and lists `catalogues`, and the preloads after `gone` move up.
+/// Returns the next root after the library at position `gone` was removed. It counts `libraries`
+/// libraries and lists `catalogues`, and the preloads after position `gone` move up by one
+/// position.
 pub(crate) fn root_without(root: &Root, libraries: usize, catalogues: &[u32], gone: usize) -> Root
     requires fits { RootHasSpelling root.now }
     requires generation { root.now.generation + 1 < 2 ^ 64 }

@@ -50,16 +50,15 @@ impl<D: Disk> OldStore<D> {
         self.found.entries[position].entry.file_length
     }
 
-    /// Returns the position of the byte string with the name `name`. Tries a guess first, and then
-    /// a binary search by name: at most 9 comparisons in all.
+    /// Returns the position of the byte string with the name `name`, if there is one. Tries a guess
+    /// first, and then a binary search by name: at most 9 comparisons in all.
     pub fn position(&self, name: &[u8]) -> Option<usize>
         ensures none { IsNone result → LacksName self.now name.now }
         ensures some { IfSome result (λ i. (i < length self.now.entries)
             × ((d : PlacedEntry)
             → name_of (slice_index_or self.now.entries i d).entry ≡ name.now)) }
 
-        // No two byte strings have the same name, so the answer is the position of the only one
-        // with this name.
+        // No two byte strings have the same name, so no other byte string has this name.
         ensures own_names { HaveOwnNames self.now.entries }
         ensures state { (s : State) → IsOldAt D.facts self.now s
             → (i : ℕ) → (result ≡ Some i)
@@ -69,7 +68,7 @@ impl<D: Disk> OldStore<D> {
         self.found.index.position_of(&self.found.entries, name)
     }
 
-    /// The positions of the preloads, in the order of the preloads.
+    /// The positions of the preloads, in the order in which they were chosen.
     pub fn preloads(&self) -> &[u16]
         ensures value { result.now ≡ listed_preloads self.now.root }
         ensures few { length result.now ≤ most_preloads }

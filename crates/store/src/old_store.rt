@@ -3,8 +3,8 @@ use sector_disk::Disk;
 use std::alloc::Global;
 use std::marker::Model;
 
-/// A store that was found on a disk of version 1. It can only be read, and turned into a store of
-/// version 2 by `commit`.
+/// A store that was found on a disk of version 1. It can be read, and `commit` can turn it into a
+/// store of version 2. Other changes are impossible.
 pub struct OldStore<D: Disk> {
     pub(crate) disk: D,
     pub(crate) found: FoundState,

@@ -11,7 +11,7 @@ impl<D: Disk> Store<D> {
 
     /// Opens the store that a disk of version 2 holds, also after a stop. Syncs, and reads the two
     /// root sectors, each catalogue, and one sector for each entry. Writes nothing. Refuses with
-    /// S6, S3, S12, S5, S11 or S1, and then hands the disk back. S12 (OldFormat) means that the
+    /// S6, S3, S12, S5, S11 or S1, and then also returns the disk. S12 (OldFormat) means that the
     /// current root is of version 1.
     pub fn open(alloc: Global, disk: D) -> Result<Store<D>, (StoreRefusal, D)>
         ensures { OpensByEntries D.facts disk result }

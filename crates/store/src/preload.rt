@@ -64,9 +64,9 @@ impl<D: Disk> Store<D> {
     ghost use Rattle.states.specs.Changes.{with_preloads};
     ghost use Rattle.store.specs.Step.{refusal_of_change, IsExactAnswer, IsRefusalOfChange};
 
-    /// Makes the byte strings at `positions` the preloads, in this order: at most 16, none of them
-    /// twice. Allocates nothing and takes no sectors. Refuses with S2, S10 or S1; only S1 may come
-    /// after the first write.
+    /// Makes the byte strings at `positions` the preloads, in this order. There are at most 16
+    /// positions, and none occurs twice. Allocates nothing and takes no sectors. Refuses with S2,
+    /// S10 or S1; only S1 may come after the first write.
     pub fn set_preloads(&mut self, positions: &[usize]) -> Result<(), StoreRefusal>
         requires few { length positions.now ≤ most_preloads }
         requires inside { All (λ position. position < length self.old.entries) positions.now }
@@ -85,11 +85,11 @@ impl<D: Disk> Store<D> {
         ensures catalogues { OnOk result
             (catalogues_of self.new.root ≡ catalogues_of self.old.root) }
 
-        // Byte strings that somebody holds keep their holders and their bytes.
+        // Held byte strings keep their holders and their bytes.
         ensures held { KeepsHeld D.facts self.old self.new }
 
-        // This holds on any disk. After a failed call of the disk, the store has to be opened
-        // again.
+        // This clause holds on any disk, honest or not. After a failed call of the disk, the store
+        // has to be opened again.
         ensures on_any_disk { Changed D.facts StoreRefusal.Device StoreRefusal.Reopen
             self.old self.new 2 IsRefusalOfChange result }
     {

@@ -1,12 +1,12 @@
-// A change is made in two steps. Preparing it makes the tests, allocates memory and claims sectors.
-// Making it is refused only with S1.
+// A change has two steps. The first step, preparing, makes the tests, allocates memory and claims
+// sectors. The second step, making, is refused only with S1.
 use crate::change::Change;
 use crate::edit::Edit;
 use crate::kept::Kept;
 use crate::refusal::StoreRefusal;
 use sector_disk::Disk;
 
-/// A prepared change: its writes, to sectors that are taken already, and its change of the list.
+/// A prepared change: its writes, to sectors that are already claimed, and its change of the list.
 #[derive(Drop)]
 pub(crate) struct Prepared {
     pub change: Change,
@@ -27,7 +27,7 @@ impl Kept {
     ghost use Rattle.store.specs.inside.Stored.{IsStored, opened};
 
     /// Makes a prepared change, with the bytes `bytes` if it puts a byte string. Refuses only with
-    /// S1, and then gives back the sectors that the change took.
+    /// S1, and then frees the sectors that the change took.
     pub(crate) fn make<D: Disk>(
         &mut self,
         disk: &mut D,

@@ -21,7 +21,7 @@ use roots::Entry;
 use sector_disk::SECTOR_BYTES;
 use std::alloc::AllocError;
 
-/// An entry whose sectors are taken, and the sectors for all catalogues of the list that has this
+/// An entry whose sectors are claimed, and the sectors for all catalogues of the list that has this
 /// entry.
 #[derive(Drop)]
 pub(crate) struct PutRoom {

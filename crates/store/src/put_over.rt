@@ -78,9 +78,9 @@ impl<D: Disk> Store<D> {
     ghost use Rattle.store.specs.Step.{IsExactAnswer, IsRefusalOfPutOver};
 
     /// Replaces the bytes under the name `name` with `bytes`, which are 64 bytes to 16 MiB. The
-    /// sectors of the old bytes become unused once the change is done and nobody holds them, and
-    /// not before. Allocates nothing. Refuses with S2, S10, S7, S8 or S1; only S1 may come after
-    /// the first write.
+    /// sectors of the old bytes become unused as soon as the change is done and nobody holds the
+    /// old bytes. Allocates nothing. Refuses with S2, S10, S7, S8 or S1; only S1 may come after the
+    /// first write.
     pub fn put_over(&mut self, name: &[u8], bytes: &[u8]) -> Result<(), StoreRefusal>
         requires present { HasName self.old name.now }
         requires size { IsFileSize (length bytes.now) }
@@ -95,16 +95,16 @@ impl<D: Disk> Store<D> {
             (refusal_of_put (room_of self.old) (longest_unused self.old) s bytes.now) result }
 
         // The put takes sectors for the bytes first, then one for the entry, and then those for the
-        // catalogues. On an honest disk the sectors for the bytes then have the bytes, followed by
-        // zeros.
+        // catalogues. On an honest disk, the sectors for the bytes have the bytes after the put,
+        // followed by zeros.
         ensures placed { OnOk result
             (IsPutOver D.facts self.old self.new name.now bytes.now) }
 
-        // Byte strings that somebody holds keep their holders and their bytes.
+        // Held byte strings keep their holders and their bytes.
         ensures held { KeepsHeld D.facts self.old self.new }
 
-        // This holds on any disk. After a failed call of the disk, the store has to be opened
-        // again.
+        // This clause holds on any disk, honest or not. After a failed call of the disk, the store
+        // has to be opened again.
         ensures on_any_disk { Changed D.facts StoreRefusal.Device StoreRefusal.Reopen
             self.old self.new (div_ceil (length bytes.now) sector_bytes
             + catalogues_for (length self.old.entries) + 4)

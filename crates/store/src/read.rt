@@ -16,8 +16,8 @@ use passes::read_bytes;
 use sector_disk::{Disk, SECTOR_BYTES};
 use std::alloc::Global;
 
-/// Reads the byte string of the entry `placed` into the vector `buffer`, whatever `buffer` holds,
-/// and returns the vector. Reads each sector of the byte string once.
+/// Reads the byte string of the entry `placed` into the vector `buffer`, and returns the vector.
+/// The previous contents of `buffer` don't matter. Reads each sector of the byte string once.
 pub(crate) fn read_file<D: Disk>(
     disk: &mut D,
     placed: &PlacedEntry,
@@ -61,9 +61,10 @@ impl<D: Disk> Store<D> {
         self.read_blob_into(position, Vec::new(alloc))
     }
 
-    /// Reads the byte string at `position` into the vector `buffer`, whatever `buffer` holds, and
-    /// returns the vector. The vector grows only if it is too small, so byte strings that are read
-    /// one after the other need memory only for the largest of them. Refuses with S2, S11 or S1.
+    /// Reads the byte string at `position` into the vector `buffer`, and returns the vector. The
+    /// previous contents of `buffer` don't matter. The vector grows only if it is too small. So if
+    /// you read several byte strings into one vector, you need memory only for the largest of them.
+    /// Refuses with S2, S11 or S1.
     pub fn read_blob_into(
         &mut self,
         position: usize,

@@ -1,4 +1,4 @@
-// The tests of a change that need neither memory nor sectors.
+// The tests of a change that need no memory and no sectors.
 use crate::kept::Kept;
 use crate::refusal::StoreRefusal;
 use roots::MOST_LIBRARIES;
@@ -8,7 +8,8 @@ impl Kept {
     ghost use Rattle.states.specs.Limits.{most_libraries, last_generation};
     ghost use Rattle.store.specs.inside.Prepared.{IsTestedChange, IsTestedNew};
 
-    /// Tests that the store is usable and has a next generation. Refuses with S2 or S10.
+    /// Tests that no call of the store has failed, and that there is a next generation. Refuses
+    /// with S2 or S10.
     pub(crate) fn test_change(&self) -> Result<(), StoreRefusal>
         ensures usable { OnOk result (IsFalse self.now.failed) }
         ensures later { OnOk result (self.now.root.generation ≢ last_generation) }
@@ -23,8 +24,8 @@ impl Kept {
         Ok(())
     }
 
-    /// Tests that the store is usable, has fewer than 2,048 byte strings, and has a next
-    /// generation. Refuses with S2, S9 or S10.
+    /// Tests that no call of the store has failed, that it has fewer than 2,048 byte strings, and
+    /// that there is a next generation. Refuses with S2, S9 or S10.
     pub(crate) fn test_new(&self) -> Result<(), StoreRefusal>
         ensures usable { OnOk result (IsFalse self.now.failed) }
         ensures few { OnOk result (length self.now.entries.items < most_libraries) }

@@ -16,19 +16,19 @@ use sector_disk::{Disk, SECTOR_BYTES};
 /// How much of a store's disk is unused.
 #[derive(Clone, Copy, PartialEq, Eq)]
 pub struct UnusedSpace {
-    /// The number of unused sectors: the state doesn't use them, and nobody holds them.
+    /// The number of unused sectors: those that neither the state nor a held byte string uses.
     pub sectors: u32,
-    /// The number of these sectors that are free, as S7 (Full) counts them: all except those that
+    /// The number of these sectors that are free by the count of S7 (Full): all except those that
     /// the next change's catalogues take.
     pub free: usize,
-    /// The number of runs that the unused sectors form.
+    /// The number of runs of unused sectors.
     pub runs: usize,
-    /// The greatest length in bytes of a byte string that a put under a new name would accept now,
-    /// or 0 if it would accept none. It doesn't depend on the length of the name.
+    /// The greatest length, in bytes, of a byte string that a put under a new name would accept
+    /// now, or 0 if it would accept none. The length of the name doesn't matter.
     pub largest: u32,
 }
 
-/// Returns the maximum number of sectors that bytes may take, beside their entry and `catalogues`
+/// Returns the maximum number of sectors that bytes may take beside their entry and `catalogues`
 /// catalogues, if `spare` sectors have to stay unused.
 fn most_sectors(layout: &Layout, catalogues: usize, spare: usize) -> usize
     requires few { catalogues ≤ most_catalogues }
@@ -89,22 +89,22 @@ impl<D: Disk> Store<D> {
         ensures sectors { result.sectors ≡ unused_count (layout_in_use self.now) }
         ensures runs { result.runs ≡ length (unused_runs (layout_in_use self.now)) }
 
-        // All unused sectors are free, except those that the next change's catalogues take. The
-        // state defines the same numbers.
+        // All unused sectors are free, except those that the next change's catalogues take. These
+        // are the same numbers as those that the definitions of the store's state have.
         ensures free { result.free ≡ result.sectors - catalogues_for (length self.now.entries) }
         ensures state { (s : State) → IsAt D.facts self.now s
             → (result.free ≡ free (room_of self.now) s)
             × (result.sectors ≡ free (room_of self.now) s + catalogues_for (length s.libraries)) }
 
-        // Bytes pass the tests of a put under a new name if and only if they aren't longer than
-        // `largest`. `largest` is 0, or a length that passes the tests itself.
+        // The tests of a put under a new name accept bytes if and only if their length is at most
+        // `largest`. If `largest` isn't 0, it is a length that the tests accept.
         ensures largest { (s : State) → IsAt D.facts self.now s
             → (bytes : List ℕ) → IsFileSize (length bytes)
             → (length bytes ≤ result.largest)
             ↔ (refusal_of_new (room_of self.now) (longest_unused self.now) s bytes ≡ None) }
         ensures form { (result.largest ≡ 0) ⊎ IsFileSize result.largest }
 
-        // After a failed call nothing can be put.
+        // After a failed call, no put is accepted.
         ensures failed { IsTrue self.now.failed → result.largest ≡ 0 }
     {
         let sectors = self.kept.layout.free_count();

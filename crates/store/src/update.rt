@@ -7,9 +7,9 @@ use sector_disk::Disk;
 use std::alloc::Global;
 use std::marker::Model;
 
-/// A store in the midst of an update: the current state on its disk, and a draft of the state after
-/// the update. The update writes the byte strings that it puts to unused sectors at once. No root
-/// leads to them before the commit.
+/// A store during an update: the current state on its disk, and a draft of the state after the
+/// update. The update writes its byte strings to unused sectors immediately. No root leads to them
+/// before the commit.
 pub struct Update<D: Disk> {
     pub(crate) disk: D,
     pub(crate) kept: Kept,
@@ -35,7 +35,7 @@ impl<D: Disk> Store<D> {
     ghost use Rattle.store.specs.Opened.{IsAt};
 
     /// Begins an update, whose draft is the current state. Makes no call of the disk. Refuses with
-    /// S2 or S11, and then hands the store back.
+    /// S2 or S11, and then also returns the store.
     pub fn update(self, alloc: Global) -> Result<Update<D>, (StoreRefusal, Store<D>)>
         ensures begun { IfOk result (λ update. update ≡ begun self) }
         ensures usable { IfOk result (λ update. IsFalse self.failed) }
@@ -62,8 +62,8 @@ impl<D: Disk> Store<D> {
 impl<D: Disk> Update<D> {
     ghost use Rattle.std.specs.Prelude.{◌≡◌};
 
-    /// Gives an update up: the store and its layout are as if no update had been begun. Makes no
-    /// call of the disk. It also works after S2.
+    /// Gives an update up, and returns the store as it would be if no update had been begun. Makes
+    /// no call of the disk. Also succeeds if an earlier call of the disk failed.
     pub fn give_up(self) -> Store<D>
         ensures { result ≡ self.store }
     {

@@ -19,7 +19,7 @@ impl Kept {
     ghost use Rattle.store.specs.inside.Draft.{IsDrafting, drafting};
     ghost use Rattle.store.specs.inside.Stored.{IsStored, opened};
 
-    /// Commits a draft's preloads, with the current list. Refuses with S1.
+    /// Commits a draft's preloads; the list stays the current one. Refuses with S1.
     fn commit_preloads<D: Disk>(&mut self, disk: &mut D, draft: &Draft) -> Result<(), StoreRefusal>
         requires drafting { IsDrafting (D.facts disk.old).sectors self.old draft.now }
         requires usable { IsFalse self.old.failed }
@@ -42,8 +42,8 @@ impl Kept {
         self.make(disk, &prepared, &[])
     }
 
-    /// Commits a draft's list, whose byte strings are written already. Refuses with S1, and then
-    /// gives the draft up.
+    /// Commits a draft's list, whose byte strings have already been written. Refuses with S1, and
+    /// then gives the draft up.
     fn commit_list<D: Disk>(&mut self, disk: &mut D, draft: Draft) -> Result<(), StoreRefusal>
         requires drafting { IsDrafting (D.facts disk.old).sectors self.old draft }
         requires usable { IsFalse self.old.failed }
@@ -104,10 +104,10 @@ impl<D: Disk> Update<D> {
     ghost use Rattle.store.specs.Taken.{AreTaken};
 
     /// Commits the draft: writes the catalogues of its list, syncs, writes the next root, and
-    /// syncs. If only the preloads were changed, writes the root with the same catalogues. If
-    /// nothing was changed, writes nothing. Allocates nothing, and never lacks sectors. Refuses
-    /// with S2 or S1, and then gives the draft up. After S1 the store has to be opened again, and
-    /// the disk may hold the draft's state.
+    /// syncs. If the update changed only the preloads, writes the root with the same catalogues. If
+    /// the update changed nothing, writes nothing. Allocates nothing, and takes no sectors that it
+    /// could lack. Refuses with S2 or S1, and then gives the draft up. After S1, the disk may hold
+    /// the draft's state, and the store has to be opened again.
     pub fn commit(self) -> (Result<(), StoreRefusal>, Store<D>)
         // A stop at any moment leaves the current state or the draft's state.
         ensures any_moment { (s d : State) → IsDraftedAt D.facts self s d
@@ -116,19 +116,19 @@ impl<D: Disk> Update<D> {
         ensures ok { (s d : State) → IsDraftedAt D.facts self s d → OnOk result.0
             (IsAt D.facts result.1 (committed self.touched s d)) }
 
-        // Byte strings that somebody holds keep their holders and their bytes.
+        // Held byte strings keep their holders and their bytes.
         ensures held { KeepsHeld D.facts self.store result.1 }
 
-        // This holds on any disk. After a failed call of the disk, the store has to be opened
-        // again.
+        // This clause holds on any disk, honest or not. After a failed call of the disk, the store
+        // has to be opened again.
         ensures on_any_disk { Changed D.facts StoreRefusal.Device StoreRefusal.Reopen
             self.store result.1 (commit_calls self.touched (length self.entries))
             (λ e. (e ≡ StoreRefusal.Device) ⊎ (e ≡ StoreRefusal.Reopen)) result.0 }
         ensures entries { OnOk result.0 (result.1.entries ≡ self.entries) }
         ensures preloads { OnOk result.0 (listed_preloads result.1.root ≡ self.preloads) }
 
-        // The catalogues of a changed list are in sectors that were unused before. If the list
-        // wasn't changed, the catalogues stay the same.
+        // If the update changed the list, the catalogues are in sectors that were unused before.
+        // Otherwise the catalogues stay the same.
         ensures placed { OnOk result.0 (self.touched ≡ Touched.List
             → AreTaken (layout_drafted self) (catalogues_of result.1.root)) }
         ensures catalogues { OnOk result.0 (self.touched ≢ Touched.List
@@ -136,7 +136,7 @@ impl<D: Disk> Update<D> {
         ensures given_up { OnErr result.0 ((result.1.root ≡ self.store.root)
             × (result.1.entries ≡ self.store.entries) × (result.1.held ≡ self.store.held)) }
 
-        // If nothing was changed in the draft, the store is unchanged.
+        // If the update changed nothing, the store is unchanged.
         ensures same { self.touched ≡ Touched.Nothing → result.1 ≡ self.store }
     {
         let Update { disk, kept, draft } = self;

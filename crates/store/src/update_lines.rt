@@ -1,4 +1,4 @@
-// The lines of an update: each changes only the draft.
+// The changes of an update. Each of them changes only the draft.
 use crate::edit::Edit;
 use crate::name_index::close_up;
 use crate::refusal::StoreRefusal;
@@ -24,7 +24,7 @@ impl<D: Disk> Update<D> {
     ghost use Rattle.store.specs.Step.{refusal_of_change, refusal_of_new, refusal_of_put};
 
     /// Puts a byte string of 64 bytes to 16 MiB after the draft's other byte strings. None of these
-    /// has the name `name`. Writes its sectors and the sector of its entry, and doesn't sync.
+    /// may have the name `name`. Writes the sectors of the bytes and of the entry, without a sync.
     /// Refuses with S2, S9, S10, S11, S7, S8 or S1; only S1 may come after the first write.
     pub fn put_new(&mut self, name: &[u8], bytes: &[u8]) -> Result<(), StoreRefusal>
         requires name { IsName name.now }
@@ -45,9 +45,9 @@ impl<D: Disk> Update<D> {
     }
 
     /// Replaces the bytes that the draft has under the name `name` with `bytes`, which are 64 bytes
-    /// to 16 MiB. The sectors of the old bytes become unused at once if the update wrote them, and
-    /// otherwise at the commit, unless somebody holds them. Allocates nothing. Refuses with S2,
-    /// S10, S7, S8 or S1; only S1 may come after the first write.
+    /// to 16 MiB. If the update wrote the old bytes, their sectors become unused immediately.
+    /// Otherwise they become unused at the commit, unless the old bytes are held. Allocates
+    /// nothing. Refuses with S2, S10, S7, S8 or S1; only S1 may come after the first write.
     pub fn put_over(&mut self, name: &[u8], bytes: &[u8]) -> Result<(), StoreRefusal>
         requires present { (position : ℕ) × IsDraftedNamed self.old name.now position }
         requires size { IsFileSize (length bytes.now) }
@@ -72,8 +72,9 @@ impl<D: Disk> Update<D> {
     }
 
     /// Removes the byte string with the name `name`, which isn't one of the draft's preloads, from
-    /// the draft. The byte strings after it move up, and the preloads keep their names. Makes no
-    /// call of the disk, allocates nothing, and never lacks sectors. Refuses with S2 or S10.
+    /// the draft. The byte strings after it move up by one position, and the preloads keep their
+    /// names. Makes no call of the disk, allocates nothing, and takes no sectors. Refuses with S2
+    /// or S10.
     pub fn delete(&mut self, name: &[u8]) -> Result<(), StoreRefusal>
         requires present { (position : ℕ) × IsDraftedNamed self.old name.now position }
         requires no_preload { IsNoPreloadOfDraft self.old name.now }
@@ -95,8 +96,9 @@ impl<D: Disk> Update<D> {
         Ok(())
     }
 
-    /// Makes the byte strings at `positions` of the draft its preloads, in this order: at most 16,
-    /// none of them twice. Makes no call of the disk and allocates nothing. Refuses with S2 or S10.
+    /// Makes the draft's byte strings at `positions` its preloads, in this order. There are at most
+    /// 16 positions, and none occurs twice. Makes no call of the disk and allocates nothing.
+    /// Refuses with S2 or S10.
     pub fn set_preloads(&mut self, positions: &[usize]) -> Result<(), StoreRefusal>
         requires few { length positions.now ≤ most_preloads }
         requires inside { All (λ position. position < length self.old.entries) positions.now }

@@ -1,4 +1,4 @@
-// Queries of an update's draft, and reading the draft's byte strings.
+// Queries of an update's draft, and reads of the draft's byte strings.
 use crate::read::read_file;
 use crate::refusal::StoreRefusal;
 use crate::update::Update;
@@ -16,8 +16,8 @@ impl<D: Disk> Update<D> {
     ghost use Rattle.store.specs.Names.{IsFileSize, IsName};
     ghost use Rattle.store.specs.Stands.{HaveOwnNames, name_of, names_at, no_library};
 
-    /// Returns whether a write or a sync of the store has failed. If so, each line of the update
-    /// returns S2, and so does the commit.
+    /// Returns whether a write or a sync of the store has failed. If so, the update refuses each
+    /// change, and the commit, with S2.
     pub fn has_failed(&self) -> bool
         ensures { result ≡ self.now.store.failed }
     {
@@ -66,8 +66,8 @@ impl<D: Disk> Update<D> {
         self.draft.entries[position].entry.file_length
     }
 
-    /// Returns the position of the draft's byte string with the name `name`. Tries a guess first,
-    /// and then a binary search by name.
+    /// Returns the position of the draft's byte string with the name `name`, if there is one. Tries
+    /// a guess first, and then a binary search by name.
     pub fn position(&self, name: &[u8]) -> Option<usize>
         ensures none { IsNone result → IsNewToDraft self.now name.now }
         ensures some { IfSome result (λ i. (i < length self.now.entries)
@@ -83,7 +83,7 @@ impl<D: Disk> Update<D> {
         self.draft.index.position_of(&self.draft.entries, name)
     }
 
-    /// The positions of the draft's preloads, in the order of the preloads.
+    /// The positions of the draft's preloads, in the order in which they were chosen.
     pub fn preloads(&self) -> &[u16]
         ensures value { result.now ≡ self.now.preloads }
         ensures few { length result.now ≤ most_preloads }

@@ -1,4 +1,4 @@
-// Opens a disk of either version as a disk of version 2.
+// Opens a disk of version 1 or 2 as a disk of version 2.
 use crate::look::Look;
 use crate::refusal::StoreRefusal;
 use crate::store::Store;
@@ -20,14 +20,14 @@ impl<D: Disk> Store<D> {
     ghost use Rattle.store.specs.Upgraded.{upgraded, IsNotOld, IsUpgradeOf, IsRelistedFrom};
     ghost use Rattle.states.specs.State.{State};
 
-    /// Opens the store that a disk of either version holds, also after a stop, as a store of
-    /// version 2. On a disk of version 2 it writes nothing. On a disk of version 1 it writes the
-    /// catalogues of the same byte strings and the next root. A stop at any moment leaves the old
-    /// store or the new one whole. Refuses with S6, S3, S5, S10, S7, S11 or S1, and then hands the
-    /// disk back; only S1 may come after the first write.
+    /// Opens the store that a disk of version 1 or 2 holds, also after a stop, as a store of
+    /// version 2. Writes nothing to a disk of version 2. Writes the catalogues of the same byte
+    /// strings and the next root to a disk of version 1. A stop at any moment leaves the whole old
+    /// store or the whole new one. Refuses with S6, S3, S5, S10, S7, S11 or S1, and then also
+    /// returns the disk; only S1 may come after the first write.
     pub fn upgrade(alloc: Global, disk: D) -> Result<Store<D>, (StoreRefusal, D)>
-        // A stop at any moment leaves only contents that a stop could leave before. On a disk of
-        // version 1, it may also leave the state after the upgrade.
+        // A stop at any moment leaves only contents that a stop could leave before the call. On a
+        // disk of version 1, it may also leave the state after the upgrade.
         ensures any_moment { IsTrue (D.facts disk).honest → (s : State)
             → StandsOld (D.facts disk).now s
             → LeavesOnly (D.facts disk) (D.facts (disk_after result))
@@ -45,8 +45,8 @@ impl<D: Disk> Store<D> {
             → IfErr result (λ e. e.0 ≢ StoreRefusal.Device
             → (D.facts e.1).now ≡ (D.facts disk).now) }
 
-        // The store is at the state that the disk's sectors held before. If the disk was of version
-        // 1, the store is at the upgraded state instead. Every mixture holds the store's state.
+        // The store is at the state that the disk's sectors held before or, if the disk was of
+        // version 1, at the upgraded state. Every mixture holds the store's state.
         ensures ok { IsTrue (D.facts disk).honest → IfOk result (λ store.
             (s : State) × IsUpgradeOf D.facts store (D.facts disk).now s) }
         ensures stands { IsTrue (D.facts disk).honest → (s : State) → Stands (D.facts disk).now s
@@ -64,8 +64,8 @@ impl<D: Disk> Store<D> {
         ensures refused { IsTrue (D.facts disk).honest → IsNotOld (D.facts disk).now
             → IfErr result (λ e. RefusesLook StandsEither (D.facts disk).now e.0) }
 
-        // The call makes the same sync and the same reads as an opening. On a disk of version 1 it
-        // then writes the catalogues and the root, and syncs twice.
+        // The call makes the same sync and the same reads as `open`. On a disk of version 1 it then
+        // writes the catalogues and the root, and syncs twice.
         ensures calls_current { IsTrue (D.facts disk).honest → (s : State)
             → Stands (D.facts disk).now s → IfOk result (λ store. AreCallsExactly
             (calls_to_open store) (D.facts disk) (D.facts store.disk)) }
@@ -74,7 +74,7 @@ impl<D: Disk> Store<D> {
             (3 + length store.entries + (catalogues_for (length store.entries) + 3))
             (D.facts disk) (D.facts store.disk)) }
 
-        // These clauses hold on any disk, honest or not.
+        // The clauses from here on hold on any disk, honest or not.
         ensures unheld { IfOk result (λ store. store.held ≡ []) }
         ensures usable { IfOk result (λ store. IsFalse store.failed) }
         ensures geometry { IfOk result (λ _. IsGeometry (D.facts disk).sectors) }

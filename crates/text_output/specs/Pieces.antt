@@ -15,12 +15,13 @@ IsWithinLine text = All (λ b. b ≢ 10) text
 abbrev pub EndsWithinLine : List ℕ → Type 0
 EndsWithinLine text = (text ≡ []) ⊎ ((front : List ℕ) × (last : ℕ) × (last ≢ 10) × (text ≡ front ++ last ∷ []))
 
--- The piece may be followed by another one: it has at most 4,096 bytes, and it ends within a line. So a text that is
--- cut after the piece ends within a line.
+-- Another piece may follow the piece: it has at most 4,096 bytes, and ends within a line. So a text
+-- that ends after this piece ends within a line.
 pub record IsFrontPiece (piece : List ℕ) : Type 0 where
   pub size : length piece ≤ most_piece
   pub within : EndsWithinLine piece
 
--- The writer's contents have grown by one piece that may be followed by another one. The piece may be empty.
+-- The writer's contents have grown by one piece, which another piece may follow. The piece may be
+-- empty.
 abbrev pub GetsFrontPiece : Option (List ℕ) → Option (List ℕ) → Type 0
 GetsFrontPiece held holds = (piece : List ℕ) × IsFrontPiece piece × Appends held holds piece

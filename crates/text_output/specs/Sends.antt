@@ -1,14 +1,14 @@
--- Text that goes to a writer by way of a buffer.
+-- Text that is written to a writer through a buffer.
 use Rattle.std.specs.Prelude.{ℕ, ◌+◌, ◌≤◌, Bool, List, ◌++◌, length, Option}
 use Rattle.std.specs.Io.KnownBytes.{Appends, append_known}
 
--- a buffer for a writer: the bytes that wait for the writer, and whether the writer has failed
+-- a buffer for a writer: the bytes that haven't been written to the writer yet, and whether the
+-- writer has failed
 pub record Buffered : Type 0 where
   pub waiting : List ℕ
   pub failed : Bool
 
--- the writer's contents, if they are known, followed by the waiting bytes of the buffer, have grown by
--- `text`
+-- the writer's contents (if they are known) and the waiting bytes after them have grown by `text`
 abbrev pub Sends : Option (List ℕ) → Buffered → Option (List ℕ) → Buffered → List ℕ → Type 0
 Sends held before holds after text =
     Appends (append_known held before.waiting) (append_known holds after.waiting) text

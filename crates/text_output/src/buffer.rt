@@ -1,4 +1,4 @@
-// A buffer for bytes that wait for a writer.
+// A buffer for bytes that haven't been written to a writer yet.
 
 ghost use Rattle.std.specs.Prelude.{◌≡◌, ◌+◌, ◌≤◌, [], ◌++◌, length, true, false};
 ghost use Rattle.std.specs.Prelude.{OnOk, OnErr, IsErr, Ok};
@@ -9,16 +9,16 @@ use crate::fault::WriteFault;
 use std::io::Write;
 use std::marker::Model;
 
-/// The minimum size of a buffer in bytes, and the maximum length of a text that is added in one
-/// step. A longer text is added in several steps.
+/// The minimum size of a buffer in bytes. This is also the maximum length of a text that is added
+/// in one step; a longer text is added in several steps.
 pub const PIECE: usize = 64;
 
-/// At most `SIZE` bytes that wait for a writer.
+/// At most `SIZE` bytes that haven't been written to a writer yet: the waiting bytes.
 ///
-/// The bytes are in the value itself, so writing allocates nothing. `OutputBuffer<LINE>` is enough
-/// for a line; a larger buffer is for a long text. After the writer has failed, the buffer writes
-/// nothing more to it, because it is unknown how many bytes the writer has accepted. In contracts,
-/// the value has the waiting bytes, and whether the writer has failed.
+/// The bytes are in the value itself, so writing allocates nothing. `OutputBuffer<LINE>` is large
+/// enough for a line; a larger buffer is for a long text. After the writer has failed, the buffer
+/// writes nothing more to it, because nobody knows how many bytes the writer has accepted. In
+/// contracts, the value is the waiting bytes, and whether the writer has failed.
 #[derive(Drop)]
 pub struct OutputBuffer<const SIZE: usize> {
     bytes: [u8; SIZE],
@@ -40,7 +40,7 @@ impl<const SIZE: usize> Model for OutputBuffer<SIZE> {
 }
 
 impl<const SIZE: usize> OutputBuffer<SIZE> {
-    /// Makes a buffer in which no bytes wait.
+    /// Makes a buffer without waiting bytes.
     pub fn new() -> Self
         requires { PIECE ≤ SIZE }
         ensures { result ≡ record { waiting = []; failed = false } }
@@ -52,7 +52,7 @@ impl<const SIZE: usize> OutputBuffer<SIZE> {
         }
     }
 
-    /// Returns the number of bytes for which there is still room.
+    /// Returns the number of bytes for which the buffer still has room.
     pub(crate) fn room(&self) -> usize
         ensures room { result + length self.now.waiting ≡ SIZE }
         ensures size { PIECE ≤ SIZE }
@@ -124,7 +124,8 @@ impl<const SIZE: usize> OutputBuffer<SIZE> {
         ensures ok { OnOk result (Appends (W.contents out.old) (W.contents out.new)
             self.old.waiting) }
         ensures sent { OnOk result (self.new ≡ record { waiting = []; failed = false }) }
-        // After a fault the bytes still wait, and the failure is noted.
+        // After a fault the bytes are still waiting, and the value states that the writer has
+        // failed.
         ensures err { OnErr result
             (self.new ≡ record { waiting = self.old.waiting; failed = true }) }
         // A writer that has failed receives nothing more.
@@ -154,8 +155,7 @@ impl<const SIZE: usize> OutputBuffer<SIZE> {
         Ok(())
     }
 
-    /// Adds a text to the waiting bytes. Sends the waiting bytes whenever there is no room for
-    /// more.
+    /// Adds a text to the waiting bytes. Sends the waiting bytes each time that the buffer is full.
     pub fn put<W: Write>(&mut self, out: &mut W, text: &[u8]) -> Result<(), WriteFault>
         ensures ok { OnOk result (Sends (W.contents out.old) self.old (W.contents out.new) self.new
             text.now) }

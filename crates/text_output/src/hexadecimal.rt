@@ -11,13 +11,13 @@ use crate::fault::WriteFault;
 use crate::zeros::{BLOCK, zeros_begin};
 use std::io::Write;
 
-/// The number of bytes that one line of text shows.
+/// The number of bytes in one line of text.
 pub(crate) const LINE_BYTES: usize = 16;
 
-/// The length of a whole line in bytes of text, with its newline.
+/// The length of a complete line of text in bytes, with its newline.
 pub(crate) const LINE_TEXT: usize = 2 * LINE_BYTES + 1;
 
-/// Returns the two digits of a byte. Both are computed at once, each in one half of a number, so
+/// Returns the two digits of a byte. Computes both at once, each in one half of a number, so that
 /// the compiler can compute all digits of a line at once.
 fn digits(byte: u8) -> [u8; 2]
     ensures first { slice_index result 0 ≡ slice_index lower_digits (byte / 16) }
@@ -25,8 +25,8 @@ fn digits(byte: u8) -> [u8; 2]
 {
     let wide = u16::from(byte);
     let values = wide / 16 + wide % 16 * 256;
-    // A half is 1 if its digit is a letter: the code of `a` is 39 more than that of the character
-    // after `9`.
+    // The half of a digit is 1 if the digit is a letter: the code of `a` is 39 more than that of
+    // the character after `9`.
     let letters = ((values + 0x0606) / 16) & 0x0101;
     (values + 0x3030 + letters * 39).to_le_bytes()
 }
@@ -59,8 +59,8 @@ impl<const SIZE: usize> OutputBuffer<SIZE> {
         self.put_piece(out, &digits)
     }
 
-    /// Adds `bytes`, which are fewer than sixteen, to the waiting bytes, as one line of hexadecimal
-    /// digits.
+    /// Adds `bytes`, of which there are fewer than sixteen, to the waiting bytes, as one line of
+    /// hexadecimal digits.
     fn put_short_line<W: Write>(&mut self, out: &mut W, bytes: &[u8]) -> Result<(), WriteFault>
         requires { length bytes.now < LINE_BYTES }
         ensures ok { OnOk result (Sends (W.contents out.old) self.old (W.contents out.new) self.new
@@ -74,8 +74,8 @@ impl<const SIZE: usize> OutputBuffer<SIZE> {
         self.put_piece(out, b"\n")
     }
 
-    /// Adds bytes in hexadecimal to the waiting bytes, sixteen bytes a line. Formats each line by
-    /// itself.
+    /// Adds bytes in hexadecimal to the waiting bytes, sixteen bytes to a line. Formats each line
+    /// separately.
     pub(crate) fn put_lines<W: Write>(
         &mut self,
         out: &mut W,
@@ -95,8 +95,8 @@ impl<const SIZE: usize> OutputBuffer<SIZE> {
         self.put_short_line(out, rest)
     }
 
-    /// Adds bytes in hexadecimal to the waiting bytes, sixteen bytes a line. If the bytes end with
-    /// more than 2,048 lines of zeros, makes the text of these lines only once.
+    /// Adds bytes in hexadecimal to the waiting bytes, sixteen bytes to a line. If the bytes end
+    /// with more than 2,048 lines of zeros, formats these lines only once.
     pub fn put_hex_lines<W: Write>(&mut self, out: &mut W, bytes: &[u8]) -> Result<(), WriteFault>
         ensures ok { OnOk result (Sends (W.contents out.old) self.old (W.contents out.new) self.new
             (hex_lines bytes.now)) }

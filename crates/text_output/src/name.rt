@@ -29,8 +29,8 @@ impl<const SIZE: usize> OutputBuffer<SIZE> {
         self.put_piece(out, &[b'\\', b'x', digits[0], digits[1]])
     }
 
-    /// Adds a name to the waiting bytes. Bytes 0x21 to 0x7e except `\` are added as they are, all
-    /// others as `\x` and two hexadecimal digits. The text of the empty name is `\e`.
+    /// Adds a name to the waiting bytes. Adds the bytes 0x21 to 0x7e except `\` unchanged, and each
+    /// other byte as `\x` and two hexadecimal digits. The text of the empty name is `\e`.
     pub fn put_name<W: Write>(&mut self, out: &mut W, name: &[u8]) -> Result<(), WriteFault>
         ensures ok { OnOk result (Sends (W.contents out.old) self.old (W.contents out.new) self.new
             (name_text name.now)) }
@@ -49,10 +49,10 @@ impl<const SIZE: usize> OutputBuffer<SIZE> {
     }
 }
 
-/// Writes a name in the format of `OutputBuffer::put_name`. If the writer's contents are known,
-/// they grow by the name's text.
+/// Writes a name in the format of `OutputBuffer::put_name`. If the writer's contents are known, the
+/// name's text is appended to them.
 ///
-/// Allocates nothing. A name whose text isn't longer than `LINE` is written with one write.
+/// Allocates nothing. Writes a name with one write if its text isn't longer than `LINE`.
 pub fn write_name<W: Write>(out: &mut W, name: &[u8]) -> Result<(), WriteFault>
     ensures { OnOk result (Appends (W.contents out.old) (W.contents out.new) (name_text name.now)) }
 {

@@ -1,4 +1,4 @@
-// Lines on their way to a writer, in pieces that end within a line.
+// Lines that are written to a writer in pieces. Each piece except the last one ends within a line.
 
 ghost use Rattle.std.specs.Prelude.{◌≡◌, ◌⊎◌, ◌++◌, ◌<◌, ◌≤◌, [], codes, length};
 ghost use Rattle.std.specs.Prelude.{OnErr, OnOk, false, true};
@@ -22,10 +22,10 @@ pub const LONGEST: usize = 256;
 /// The buffer for a piece.
 type Piece = OutputBuffer<PIECE_BYTES>;
 
-/// Lines on their way to a writer. They are written in pieces of at most 4,096 bytes. Each piece
-/// except the last one ends within a line. So if a text is cut between two pieces, a reader sees
-/// that it is cut. In contracts, `waiting` has the waiting bytes, which include the newline of an
-/// ended line.
+/// Lines that are written to a writer in pieces of at most 4,096 bytes. Each piece except the last
+/// one ends within a line. So if a text ends after any other piece, a reader sees that the text is
+/// incomplete. In contracts, `waiting` is the waiting bytes, including the newline of a line that
+/// has ended.
 #[derive(Drop)]
 pub struct PieceBuffer {
     piece: Piece,
@@ -49,7 +49,7 @@ impl Model for PieceBuffer {
 }
 
 /// Writes a piece that isn't the last one to the writer, with one call of `write_all`.
-fn give<W: Write>(piece: &mut Piece, out: &mut W) -> Result<(), WriteFault>
+fn write_piece<W: Write>(piece: &mut Piece, out: &mut W) -> Result<(), WriteFault>
     requires { IsFrontPiece piece.old.waiting }
     ensures ok { OnOk result (Appends (W.contents out.old) (W.contents out.new)
         piece.old.waiting) }
@@ -71,8 +71,8 @@ impl PieceBuffer {
         }
     }
 
-    /// Adds a part of a line to the waiting bytes. If there is no room for the part and a newline,
-    /// first writes the waiting bytes to the writer, as one piece.
+    /// Adds a part of a line to the waiting bytes. If the buffer has no room for the part and a
+    /// newline, first writes the waiting bytes to the writer, as one piece.
     pub fn put<W: Write>(&mut self, out: &mut W, text: &[u8]) -> Result<(), WriteFault>
         requires short { length text.now ≤ LONGEST }
         requires line { IsWithinLine text.now }
@@ -89,7 +89,7 @@ impl PieceBuffer {
             return Ok(());
         }
         if self.piece.room() <= text.len() + 1 {
-            give(&mut self.piece, out)?;
+            write_piece(&mut self.piece, out)?;
         }
         if self.line_is_ended {
             self.piece.append(b"\n");
@@ -99,8 +99,8 @@ impl PieceBuffer {
         Ok(())
     }
 
-    /// Adds a newline to the waiting bytes. It waits there for the next line, or for the end of the
-    /// text.
+    /// Adds a newline to the waiting bytes. The newline isn't written until the next line begins or
+    /// the text ends.
     pub fn end_line(&mut self)
         requires { EndsWithinLine self.old.waiting }
         ensures { self.new.waiting ≡ self.old.waiting ++ codes "\n" }

@@ -17,8 +17,8 @@ const FEW: u64 = 2048;
 /// The number of bytes that are tested for zeros at once.
 pub(crate) const BLOCK: usize = 64;
 
-/// Returns whether a block has only zeros. Looks at all bytes without stopping early, so that the
-/// compiler can use vector instructions.
+/// Returns whether a block has only zeros. Tests all bytes, so that the compiler can use vector
+/// instructions.
 fn is_zero(block: &[u8; BLOCK]) -> bool
     ensures { result ≡ true → block.now ≡ replicate (length block.now) 0 }
 {
@@ -29,7 +29,7 @@ fn is_zero(block: &[u8; BLOCK]) -> bool
     highest == 0
 }
 
-/// Returns the offset at which the blocks of zeros at the end of `bytes` begin. `bytes` has only
+/// Returns the offset at which the blocks of zeros at the end of `bytes` begin. `bytes` must be
 /// whole blocks.
 pub(crate) fn zeros_begin(bytes: &[u8]) -> usize
     requires { length bytes.now % BLOCK ≡ 0 }
@@ -96,7 +96,7 @@ impl<const SIZE: usize> OutputBuffer<SIZE> {
         }
         self.put_few_zero_lines(out, left)
     }
-    /// Adds `count` zeros in hexadecimal to the waiting bytes, sixteen bytes a line.
+    /// Adds `count` zeros in hexadecimal to the waiting bytes, sixteen bytes to a line.
     fn put_zeros<W: Write>(&mut self, out: &mut W, count: u64) -> Result<(), WriteFault>
         ensures ok { OnOk result (Sends (W.contents out.old) self.old (W.contents out.new) self.new
             (hex_lines (replicate count 0))) }
@@ -107,8 +107,8 @@ impl<const SIZE: usize> OutputBuffer<SIZE> {
         self.put_lines(out, &zeros[..(count % LINE_BYTES as u64) as usize])
     }
 
-    /// Adds `bytes`, followed by `zeros` zeros, in hexadecimal to the waiting bytes, sixteen bytes
-    /// a line. Makes the text of the lines of zeros only once.
+    /// Adds `bytes` and then `zeros` zeros, in hexadecimal, to the waiting bytes, sixteen bytes to
+    /// a line. Formats the lines of zeros only once.
     pub fn put_padded_hex_lines<W: Write>(
         &mut self,
         out: &mut W,

@@ -1,5 +1,5 @@
--- How a form ends on any disk, even on a disk that lies: it writes a text that belongs to the form, and
--- exits with the status of this text (own).
+-- The possible ends of a form on any disk, honest or not: the form writes a text of its own, and
+-- exits with the status for this text (own).
 use Rattle.std.specs.Prelude.{◌≡◌, ◌≢◌, ◌⊎◌, ◌<◌, ℕ, List, ◌++◌, length, codes, All, Option, count_by, is_none}
 use Rattle.std.specs.List.{flat_map}
 use Rattle.sector_disk.specs.Disk.{DiskFacts}
@@ -21,14 +21,14 @@ use Rattle.tool_commands.specs.Said.{not_installed_line}
 use Rattle.tool_parts.specs.Streams.{Streams, CannotWrite, IsSilent, Says, SaysOnly, Tells, TellsOnly}
 use Rattle.tool_commands.specs.declared.form.Purpose.{Purpose}
 
--- `info`: exactly the lines for some numbers are written
+-- `info`: the lines for some numbers are written, and nothing else
 abbrev pub InfoTells : Streams → Status → Type 0
 InfoTells io status = (told : Info)
     × TellsOnly Done (info_text told.sectors told.generation told.libraries told.preloads told.unused.sectors told.unused.free told.unused.runs told.unused.largest) io status
 
--- The forms read byte strings, and their calls changed the disk's facts from `old` to `new`.
+-- The forms read byte strings. Their calls changed the disk's facts from `old` to `new`.
 module _ (old new : DiskFacts) where
-  -- `check`: either the findings for some libraries are written, and at least one call failed for each
+  -- `check`: the findings for some libraries are written, and at least one call failed for each
   -- library that can't be read; or memory was refused
   abbrev pub CheckTells : Streams → Status → Type 0
   CheckTells io status =
@@ -36,33 +36,33 @@ module _ (old new : DiskFacts) where
       × TellsOnly (check_status findings) (check_text libraries findings) io status)
       ⊎ SaysOnly NoMemory memory_line io status
 
-  -- `digest`: either the digests of some bytes are written with the names of some libraries, and at
-  -- least one call failed for each library that can't be read; or memory was refused
+  -- `digest`: the digests of some bytes are written with the names of some libraries, and at least
+  -- one call failed for each library that can't be read; or memory was refused
   abbrev pub DigestTells : Streams → Status → Type 0
   DigestTells io status =
       ((libraries : List Library) × (digests : List (Option (List ℕ))) × (length digests ≡ length libraries) × All IsDigestOfSome digests
       × HaveFailed old new (count_by is_none digests) × TellsDigests libraries digests io status)
       ⊎ SaysOnly NoMemory memory_line io status
 
-  -- either the bytes of a library can't be read because a call failed, or memory was refused
+  -- a call failed, so that the bytes of a library can't be read; or memory was refused
   abbrev pub IsUnread : Streams → Status → Type 0
   IsUnread io status = ((old.failures < new.failures) × SaysOnly Failed device_line io status) ⊎ SaysOnly NoMemory memory_line io status
 
-  -- `file`: either some bytes are written, or the library isn't installed, or its bytes can't be read
+  -- `file`: some bytes are written; or the library isn't installed; or its bytes can't be read
   abbrev pub FileTells : Streams → Status → Type 0
   FileTells io status =
       ((bytes : List ℕ) × TellsOnly Done bytes io status)
       ⊎ (SaysOnly Refused not_installed_line io status ⊎ IsUnread io status)
 
-  -- Standard error reports why a script is cut. Either a library can't be read because a call failed, or
-  -- a file isn't a library with its entry's name, or memory was refused.
+  -- Standard error reports why a script is cut: a library can't be read because a call failed, or a
+  -- file isn't a library with its entry's name, or memory was refused.
   abbrev pub IsCut : Streams → Status → Type 0
   IsCut io status =
       ((finding : Finding) × (name : List ℕ) × (size : ℕ) × (finding ≢ Sound) × (finding ≡ Unreadable → old.failures < new.failures)
       × (status ≡ cut_status finding) × Says io (said_line (finding_line name size finding)))
       ⊎ ((status ≡ NoMemory) × Says io memory_line)
 
-  -- `dump`: either the whole script for some libraries, some preloads and this purpose is written; or a
+  -- `dump`: the whole script for some libraries, some preloads and this purpose is written; or a
   -- cut script for some libraries is written; or the output failed
   abbrev pub DumpTells : Purpose → Streams → Status → Type 0
   DumpTells purpose io status =
@@ -71,7 +71,7 @@ module _ (old new : DiskFacts) where
       ⊎ (((libraries : List Library) × IsCut io status × Tells io (flat_map install_text libraries ++ codes "cut"))
       ⊎ CannotWrite io status)
 
--- the question is answered with some text about the disk, and the calls changed the disk's facts from
+-- the question is answered with a text about the disk, and the calls changed the disk's facts from
 -- `old` to `new`
 abbrev pub FormTells : (old new : DiskFacts) → Question → Streams → Status → Type 0
 FormTells old new info io status = InfoTells io status

@@ -1,4 +1,4 @@
--- The text of `check` about each library (own).
+-- The text of `check` for the libraries (own).
 use Rattle.std.specs.Prelude.{◌≡◌, ℕ, ◌+◌, ◌<◌, ◌≤◌, List, ◌++◌, length, slice_index_or, Bool, true, false, if◌then◌else◌, codes}
 use Rattle.std.specs.List.{list_all}
 use Rattle.std.specs.Fmt.{decimal}
@@ -46,12 +46,12 @@ pub record AreFindings (libraries : List Library) (findings : List Finding) : Ty
 abbrev pub HaveFailed : (old new : DiskFacts) → (count : ℕ) → Type 0
 HaveFailed old new count = old.failures + count ≤ new.failures
 
--- whether the finding is `Sound`: the file is a library with its entry's name
+-- the finding is `Sound`: the file is a library with its entry's name
 abbrev pub is_sound : Finding → Bool
 is_sound Sound = true
 is_sound finding = false
 
--- the status of a check: Refused if a file isn't a library with its entry's name, or can't be read;
--- otherwise Done
+-- the status of a check: Refused if a file can't be read or isn't a library with its entry's name,
+-- and Done otherwise
 abbrev pub check_status : List Finding → Status
 check_status findings = if list_all is_sound findings then status.Done else status.Refused

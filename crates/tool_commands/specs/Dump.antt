@@ -1,4 +1,4 @@
--- The script that makes a registry again (own).
+-- The script that makes the same registry again (own).
 use Rattle.std.specs.Prelude.{ℕ, List, [], ◌∷◌, ◌++◌, take, codes}
 use Rattle.std.specs.List.{flat_map}
 use Rattle.hex.specs.Hex.{encode_lower}
@@ -22,7 +22,7 @@ install_text l = install_line l.bytes
 abbrev pub behind_space : List ℕ → List ℕ
 behind_space name = codes " " ++ name
 
--- the line that sets the preloads, or nothing if there are no preloads
+-- the line that sets the preloads; empty if there are no preloads
 abbrev pub preload_text : List (List ℕ) → List ℕ
 preload_text [] = []
 preload_text (name ∷ names) = codes "preload" ++ flat_map behind_space (name ∷ names) ++ codes "\n"
@@ -32,7 +32,7 @@ preload_text (name ∷ names) = codes "preload" ++ flat_map behind_space (name �
 abbrev pub dump_text : State → List ℕ
 dump_text s = flat_map install_text s.libraries ++ preload_text s.preloads
 
--- the line `commit`, if the script is for an update
+-- the line `commit` if the script is for an update, and otherwise no bytes
 abbrev pub commit_text : Purpose → List ℕ
 commit_text Script = []
 commit_text Update = codes "commit\n"
@@ -50,7 +50,7 @@ script_text purpose s = flat_map install_text s.libraries ++ last_text purpose s
 abbrev pub cut_text : State → ℕ → List ℕ
 cut_text s k = flat_map install_text (take k s.libraries) ++ codes "cut"
 
--- the status if a script is cut at a library with this finding
+-- the status for a script that is cut at a library with this finding
 abbrev pub cut_status : Finding → Status
 cut_status Sound = status.Done
 cut_status Unreadable = status.Failed

@@ -1,5 +1,5 @@
--- How the forms end in a state, and how a form ends on a disk: the output, standard error and the status
--- (own).
+-- The ends of the forms for a state, and the ends of a form for a disk: the output, standard error
+-- and the status (own).
 use Rattle.std.specs.Prelude.{◌≡◌, ◌≢◌, ◌⊎◌, ◌↔◌, ◌≤◌, ◌<◌, ℕ, List, All, Option, None, Ok, Err, length, slice_index_or, codes, count_by, is_none, sum_by}
 use Rattle.extents.specs.Layout.{unused_count}
 use Rattle.extents.specs.Runs.{unused_runs}
@@ -35,47 +35,47 @@ use Rattle.tool_commands.specs.Said.{not_installed_line}
 use Rattle.tool_parts.specs.Streams.{Streams, CannotWrite, IsSilent, Says, SaysOnly, Tells, TellsOnly}
 use Rattle.tool_commands.specs.declared.form.Purpose.{Purpose}
 
--- An install of a file with a new name is refused with S7, S8, S9 or S10 if and only if the file has
--- more than `largest` bytes. `largest` is 0 or a possible length of a file.
+-- An install of a file with a new name is refused with S7, S8, S9 or S10 if and only if the file
+-- has more than `largest` bytes. `largest` is 0 or a possible length of a file.
 pub record IsLargest {D : Type 0} (facts : D → DiskFacts) (store : Opened D) (s : State) (largest : ℕ) : Type 0 where
   pub exact : (bytes : List ℕ) → IsFileSize (length bytes)
       → (length bytes ≤ largest) ↔ (refusal_of_new (facts store.disk).sectors (longest_unused store) s bytes ≡ None)
   pub form : (largest ≡ 0) ⊎ IsFileSize largest
 
--- `info`: the lines have the numbers that are defined for the state and the disk
+-- `info`: the lines have the numbers of the state and the disk
 abbrev pub InfoEnds : {D : Type 0} → (D → DiskFacts) → Opened D → State → Streams → Status → Type 0
 InfoEnds facts store s io status = (largest : ℕ) × IsLargest facts store s largest
     × TellsOnly Done (info_text (facts store.disk).sectors s.generation (length s.libraries) (length s.preloads)
     (unused_count (layout_in_use store)) (free (facts store.disk).sectors s) (length (unused_runs (layout_in_use store))) largest) io status
 
--- The forms read byte strings, and their calls changed the disk's facts from `old` to `new`.
+-- The forms read byte strings. Their calls changed the disk's facts from `old` to `new`.
 module _ (old new : DiskFacts) where
-  -- `check`: either the finding for each library is written, and at least one call failed for each
-  -- library that can't be read; or memory was refused for a library's bytes before the library was read,
-  -- or for a test of a library
+  -- `check`: the finding for each library is written, and at least one call failed for each library
+  -- that can't be read; or memory was refused for a library's bytes before the library was read, or
+  -- for a test of a library
   abbrev pub CheckEnds : List PlacedEntry → State → Streams → Status → Type 0
   CheckEnds entries s io status =
       ((findings : List Finding) × AreFindings s.libraries findings × HaveFailed old new (count_by is_unreadable findings)
       × TellsOnly (check_status findings) (check_text s.libraries findings) io status)
       ⊎ (LacksMemory old new entries s × SaysOnly NoMemory memory_line io status)
 
-  -- `digest`: either the SHA-256 of each library's bytes is written, and at least one call failed for
-  -- each library that can't be read; or memory was refused
+  -- `digest`: the SHA-256 of each library's bytes is written, and at least one call failed for each
+  -- library that can't be read; or memory was refused
   abbrev pub DigestEnds : State → Streams → Status → Type 0
   DigestEnds s io status =
       ((digests : List (Option (List ℕ))) × AreDigests s.libraries digests × HaveFailed old new (count_by is_none digests)
       × TellsDigests s.libraries digests io status)
       ⊎ SaysOnly NoMemory memory_line io status
 
-  -- `file`: either exactly the bytes of the library named `name` are written, or there is no such
-  -- library, or the bytes of the library can't be read
+  -- `file`: exactly the bytes of the library named `name` are written; or there is no such library;
+  -- or the bytes of the library can't be read
   abbrev pub FileEnds : State → List ℕ → Streams → Status → Type 0
   FileEnds s name io status =
       ((bytes : List ℕ) × HasFile s name bytes × TellsOnly Done bytes io status)
       ⊎ ((All (λ library. library.name ≢ name) s.libraries × SaysOnly Refused not_installed_line io status)
       ⊎ IsUnread old new io status)
 
-  -- Standard error reports why a script is cut at a library. Either the library can't be read because a
+  -- Standard error reports why a script is cut at a library: the library can't be read because a
   -- call failed, or the file isn't a library with its entry's name, or memory was refused.
   abbrev pub IsCutFor : Library → Streams → Status → Type 0
   IsCutFor l io status =
@@ -83,16 +83,16 @@ module _ (old new : DiskFacts) where
       × (status ≡ cut_status finding) × Says io (said_line (finding_text l finding)))
       ⊎ ((status ≡ NoMemory) × Says io memory_line)
 
-  -- `dump`: either exactly the script for this purpose is written, and each file is a library with its
-  -- entry's name; or exactly the script up to some library is written, and is cut at this library; or
-  -- the output failed
+  -- `dump`: exactly the script for this purpose is written, and each file is a library with its
+  -- entry's name; or exactly the script up to a library is written, and cut there; or the output
+  -- failed
   abbrev pub DumpEnds : Purpose → State → Streams → Status → Type 0
   DumpEnds purpose s io status =
       ((status ≡ Done) × All IsLibrary s.libraries × Tells io (script_text purpose s) × IsSilent io)
       ⊎ (((k : ℕ) × (k < length s.libraries) × IsCutFor (slice_index_or s.libraries k no_library) io status × Tells io (cut_text s k))
       ⊎ CannotWrite io status)
 
--- the question is answered for an opened disk in state s; `left` is the disk afterwards
+-- the question is answered for an opened disk at state s; `left` is the disk afterwards
 abbrev pub FormEnds : {D : Type 0} → (D → DiskFacts) → Opened D → D → State → Question → Streams → Status → Type 0
 FormEnds facts store left s info io status = InfoEnds facts store s io status
 FormEnds facts store left s check io status = CheckEnds (facts store.disk) (facts left) store.entries s io status
@@ -100,8 +100,8 @@ FormEnds facts store left s digest io status = DigestEnds (facts store.disk) (fa
 FormEnds facts store left s (file name) io status = FileEnds (facts store.disk) (facts left) s name io status
 FormEnds facts store left s (dump purpose) io status = DumpEnds (facts store.disk) (facts left) purpose s io status
 
--- The number of calls of the disk that were made to answer the question, if the disk's libraries have
--- these entries. It is 0 for `info`, and at most 1 for each sector of each library for `check` and
+-- The number of calls of the disk for the answer to the question, if the disk's libraries have
+-- these entries: 0 for `info`, and at most 1 for each sector of each library for `check` and
 -- `digest`. For `file` and `dump` it is unspecified.
 abbrev pub FormReads : (old new : DiskFacts) → List PlacedEntry → Question → Type 0
 FormReads old new entries info = AreCallsExactly 0 old new
@@ -110,17 +110,17 @@ FormReads old new entries digest = AreCallsAtMost (sum_by file_sectors entries) 
 FormReads old new entries (file name) = Unit {0}
 FormReads old new entries (dump purpose) = Unit {0}
 
--- The disk can't be opened. A dump writes the script `cut`, or the output fails. Any other form writes
--- nothing to the output.
+-- The form ends because the disk can't be opened. A dump writes the script `cut`, or the output
+-- fails. Any other form writes nothing to the output.
 abbrev pub EndsUnopened : Question → Status → Option (List ℕ) → Option (List ℕ) → Status → Type 0
 EndsUnopened (dump purpose) ends before after status = IsTold ends (codes "cut") before after status
 EndsUnopened question ends before after status = (status ≡ ends) × (after ≡ before)
 
--- A disk was opened, whatever named byte strings it holds, and the question was answered for it. `left`
--- is the disk afterwards.
+-- A disk with any named byte strings was opened, and the question was answered for it. `left` is
+-- the disk afterwards.
 pub record IsAsked {D : Type 0} (facts : D → DiskFacts) (disk : D) (question : Question) (io : Streams) (status : Status) (left : D) : Type 0 where
   pub store : Opened D
-  -- opening the disk read no library's file
+  -- the opening of the disk read no library's file
   pub opened : OpensByEntries facts disk (Ok store)
   -- after the opening, the disk was only read
   pub read : Opened D
@@ -129,11 +129,11 @@ pub record IsAsked {D : Type 0} (facts : D → DiskFacts) (disk : D) (question :
   pub back : left ≡ read.disk
   -- if the opened disk is at state s, the answer is for this state
   pub ends : (s : State) → IsAt facts store s → FormEnds facts store left s question io status
-  -- the answer on any disk, even on a disk that lies
+  -- the answer on any disk, honest or not
   pub told : FormTells (facts store.disk) (facts left) question io status
 
--- either the question is answered for the disk, or standard error reports why the disk was refused;
--- `left` is the disk afterwards
+-- the question is answered for the disk, or standard error reports why the disk was refused; `left`
+-- is the disk afterwards
 abbrev pub DiskEnds : {D : Type 0} → (D → DiskFacts) → D → Question → Streams → Status → D → Type 0
 DiskEnds facts disk question io status left =
     IsAsked facts disk question io status left

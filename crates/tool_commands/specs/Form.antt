@@ -1,4 +1,4 @@
--- Which form the arguments of a command line have (own).
+-- The forms of a command line's arguments (own).
 use Rattle.std.specs.Prelude.{ℕ, List, [], ◌∷◌, map, Bool, true, false, Option, Some, None, Result, Ok, Err, Vec, String, string_bytes, if◌then◌else◌, bytes_eq, codes}
 use Rattle.std.specs.Option.{option_map}
 use Rattle.program_parts.specs.Base.{base_of}
@@ -18,9 +18,9 @@ pub data Question : Type 0 where
   file : List ℕ → Question
   dump : Purpose → Question
 
--- An action on a disk: answer a question; replace a library by the file at a path; remove a library by
--- its name; run an update; write the executable file of the program at a path; or report what the
--- symbols of that program are bound to.
+-- An action on a disk: answer a question; replace a library by the file at a path; remove a library
+-- by its name; run an update; write the executable file of the program at a path; or report the
+-- bindings of that program's symbols.
 pub data Deed : Type 0 where
   tell : Question → Deed
   replace : List ℕ → Deed
@@ -39,7 +39,7 @@ abbrev pub of_one : Deed → List (List ℕ) → Option CommandLine
 of_one deed (disk ∷ []) = Some (record { disk = disk; deed = deed })
 of_one deed words = None
 
--- the purpose of a dump that the argument after DISK names
+-- the purpose of a dump for the argument after DISK, or none if it isn't `commit`
 abbrev pub purpose_of : List ℕ → Option Purpose
 purpose_of word = if bytes_eq word (codes "commit") then Some Update else None
 
@@ -96,12 +96,12 @@ deed_of (action.Bindings program base) = bindings program.now base
 abbrev pub line_of : Asked → CommandLine
 line_of asked = record { disk = asked.disk.now; deed = deed_of asked.action }
 
--- whether the form reads the input
+-- the form reads the input
 abbrev pub reads_input : Deed → Bool
 reads_input update = true
 reads_input deed = false
 
--- whether the arguments are a command line for whose deed `is_such` is true
+-- the arguments are a command line, and `is_such` is true for its deed
 abbrev pub asks_for : (Deed → Bool) → Option CommandLine → Bool
 asks_for is_such (Some line) = is_such line.deed
 asks_for is_such None = false

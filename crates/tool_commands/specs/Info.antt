@@ -12,8 +12,8 @@ abbrev pub count_lines : (libraries preloads : ℕ) → List ℕ
 count_lines libraries preloads =
     codes "libraries " ++ decimal libraries ++ codes " of 2048\n" ++ (codes "preloads " ++ decimal preloads ++ codes " of 16\n")
 
--- the lines about the unused sectors: their number, how many of them are free, the number of runs
--- that all of them form, and the length of the largest file that can be installed
+-- the lines about the unused sectors: their number, the number of those that are free, the number
+-- of their runs, and the length of the largest file that can be installed
 abbrev pub room_lines : (unused free runs largest : ℕ) → List ℕ
 room_lines unused free runs largest =
     codes "unused " ++ decimal unused ++ codes "\n" ++ (codes "free " ++ decimal free ++ codes "\n") ++ (codes "runs " ++ decimal runs ++ codes "\n")

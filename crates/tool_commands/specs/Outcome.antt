@@ -1,4 +1,4 @@
--- How the program ends with given arguments, whatever disk the file DISK contains (own).
+-- The ends of the program with given arguments, for any contents of the file DISK (own).
 use Rattle.std.specs.Prelude.{◌≡◌, ◌≢◌, ◌⊎◌, ◌<◌, ℕ, List, Option, Some, None, Bool, true, false, length}
 use Rattle.std.specs.declared.io.ErrorKind.{ErrorKind}
 use Rattle.std.specs.declared.io.ErrorKind.TheVariants.{OutOfMemory}
@@ -43,15 +43,15 @@ abbrev pub read_status : FileFault → Status
 read_status read_file.CannotRead = Failed
 read_status read_file.OutOfMemory = NoMemory
 
--- The text on standard error if a file can't be opened as a disk. If the file can't be opened at all,
--- the text is unspecified.
+-- The text on standard error if a file can't be opened as a disk. It is unspecified if the file
+-- can't be opened at all.
 abbrev pub SaysFault : OpenFault → Option (List ℕ) → Option (List ℕ) → Type 0
 SaysFault disk_file.CannotOpen before after = Unit {0}
 SaysFault (disk_file.BadLength length) before after = AppendsFront before after (refusal_line BadGeometry)
 SaysFault disk_file.OutOfMemory before after = AppendsFront before after memory_line
 
--- The text on standard error if the bytes of a file aren't available. If the file can't be read, the
--- text is unspecified; otherwise memory was refused.
+-- The text on standard error if the bytes of a file aren't available. It is unspecified if the file
+-- can't be read. Otherwise it reports that memory was refused.
 abbrev pub SaysUnread : FileFault → Option (List ℕ) → Option (List ℕ) → Type 0
 SaysUnread read_file.CannotRead before after = Unit {0}
 SaysUnread read_file.OutOfMemory before after = AppendsFront before after memory_line
@@ -60,7 +60,7 @@ SaysUnread read_file.OutOfMemory before after = AppendsFront before after memory
 abbrev pub SystemDisk : Type 0
 SystemDisk = FileDisk DiskFile ghosts
 
--- Either the question is answered for a new disk over a file; or no disk was opened, and standard error
+-- The question is answered for a new disk over a file; or no disk was opened, and standard error
 -- reports why. S6 (BadGeometry) is reported only for a length that no disk has.
 abbrev pub TellEnds : Question → Streams → Status → Type 0
 TellEnds question io status =
@@ -68,8 +68,9 @@ TellEnds question io status =
     ⊎ ((fault : OpenFault) × EndsUnopened question (open_status fault) io.before io.after status × SaysFault fault io.errors_before io.errors_after
     × IsLengthFault fault)
 
--- Either `Ends` holds for a new disk over a file; or no disk was opened, standard error reports why,
--- and nothing was written to the output. S6 is reported only for a length that no disk has.
+-- `Ends` holds for a new disk over a file; or no disk was opened, standard error reports why, and
+-- nothing was written to the output. S6 (BadGeometry) is reported only for a length that no disk
+-- has.
 abbrev pub OpenEnds : (SystemDisk → SystemDisk → Type 0) → Streams → Status → Type 0
 OpenEnds Ends io status =
     ((disk : SystemDisk) × (left : SystemDisk) × IsNew disk × Ends disk left)
@@ -79,12 +80,11 @@ OpenEnds Ends io status =
 abbrev pub AskEnds : Request → Telling → Streams → Status → Type 0
 AskEnds asked telling io status = OpenEnds (λ disk left. RequestEnds file_facts disk asked telling io status left) io status
 
--- the form reported what the symbols of a program at the address `base` are bound to, with the disk's
--- libraries
+-- the form reported the bindings of the symbols of a program at `base`, with the disk's libraries
 abbrev pub BindingsAskEnds : List ℕ → ℕ → Streams → Status → Type 0
 BindingsAskEnds program base io status = OpenEnds (λ disk left. BindingsEnds file_facts disk program base io status left) io status
 
--- either the bytes of a file were read, and `Ends` holds for them; or they weren't read, standard error
+-- the bytes of a file were read, and `Ends` holds for them; or they weren't read, standard error
 -- reports why, and nothing was written to the output
 abbrev pub ReadEnds : (List ℕ → Type 0) → Streams → Status → Type 0
 ReadEnds Ends io status =
@@ -95,7 +95,8 @@ ReadEnds Ends io status =
 abbrev pub ExitsWith : (Status → Type 0) → ℕ → Type 0
 ExitsWith IsSo number = (status : Status) × IsSo status × (number ≡ status_number status)
 
--- `contents` is the bytes that an output holds, or none if the output's contract doesn't define them.
+-- `contents` returns the bytes that an output has, or none if the output's contract doesn't define
+-- them.
 module _ {O : Type 0} (contents : O → Option (List ℕ)) where
   -- an update was run over the disk
   abbrev pub UpdateAskEnds : program.Streams → Status → Type 0
@@ -110,9 +111,9 @@ module _ {O : Type 0} (contents : O → Option (List ℕ)) where
   DeedEnds (executable path base) io status = ReadEnds (λ bytes. AskEnds (request.bind bytes base) Executable (outputs_of io) status) (outputs_of io) status
   DeedEnds (bindings path base) io status = ReadEnds (λ bytes. BindingsAskEnds bytes base (outputs_of io) status) (outputs_of io) status
 
-  -- If the arguments have none of the forms, exactly the usage is reported. Only such arguments end
-  -- with the status BadWords. For all other arguments, either the action is carried out; or a standard
-  -- stream is open, or may be open, to the disk's file, and nothing was written to the output.
+  -- If the arguments have none of the forms, exactly the usage is reported. Only such arguments
+  -- lead to the status BadWords. For all other arguments, the action is carried out; or a standard
+  -- stream leads, or may lead, to the disk's file, and nothing is written to the output.
   abbrev pub IsEnd : Option CommandLine → program.Streams → Status → Type 0
   IsEnd None io status = SaysOnly BadWords usage_line (outputs_of io) status
   IsEnd (Some line) io status = (status ≢ BadWords) × (DeedEnds line.deed io status ⊎ ((status ≡ Failed) × IsUntold (outputs_of io)))
@@ -121,21 +122,22 @@ module _ {O : Type 0} (contents : O → Option (List ℕ)) where
   abbrev pub LineEnds : Option CommandLine → program.Streams → ℕ → Type 0
   LineEnds line io number = ExitsWith (IsEnd line io) number
 
-  -- How the program ends if its arguments couldn't be read. If memory was refused, exactly that is
-  -- reported. Otherwise the program ends as if the arguments had none of the forms.
+  -- The end of the program if its arguments couldn't be read. If memory was refused, exactly this
+  -- is reported. Otherwise the program ends in the same way as for arguments that have none of the
+  -- forms.
   abbrev pub UnreadEnds : ErrorKind → program.Streams → ℕ → Type 0
   UnreadEnds why io number =
       (why ≡ OutOfMemory → ExitsWith (SaysOnly NoMemory memory_line (outputs_of io)) number) × (why ≢ OutOfMemory → LineEnds None io number)
 
--- whether something may be written to standard error although the status is Done; only writing an
+-- the form may write to standard error although the status is Done; only the form that writes an
 -- executable file may do this
 abbrev pub warns : Deed → Bool
 warns (executable path base) = true
 warns deed = false
 
--- Whether both the output and standard error may be written to. This is possible for digests, if a
--- library can't be read; for a script that is cut; for an update whose lines a fault ended; and for an
--- executable file.
+-- The form may write to both the output and standard error. This is so for digests, if a library
+-- can't be read; for a script that is cut; for an update that a fault ended; and for an executable
+-- file.
 abbrev pub says_beside : Deed → Bool
 says_beside (tell digest) = true
 says_beside (tell (dump purpose)) = true

@@ -1,4 +1,5 @@
-// Runs the program with the arguments of the process, or reports that they couldn't be read.
+// Runs the program with the arguments of the process, or reports that the arguments couldn't be
+// read.
 
 ghost use Rattle.std.specs.Prelude.{◌≡◌, ◌≢◌, ◌≤◌, ◌⊎◌, IfErr, OnOk, None, false};
 ghost use Rattle.std.specs.IoError.{error_kind};
@@ -15,9 +16,9 @@ use std::rt::{Clock, Files};
 use store::StoreRefusal;
 use tool_parts::say_refusal;
 
-/// If the arguments could be read, does the same as `run_words`. If memory for the arguments was
-/// refused, reports that. If the arguments couldn't be read for another reason, reports the usage,
-/// as for arguments that have none of the forms.
+/// Does the same as `run_words` if the arguments could be read. If memory for the arguments was
+/// refused, reports this. If they couldn't be read for another reason, reports the usage, as it
+/// does for arguments that have none of the forms.
 pub fn run_arguments<R: Files<File = File> + Clock, I: Read, O: Write, E: Write>(
     rt: &R,
     alloc: Global,
@@ -28,7 +29,7 @@ pub fn run_arguments<R: Files<File = File> + Clock, I: Read, O: Write, E: Write>
 ) -> u8
     ensures most { result ≤ 4 }
 
-    // If the arguments could be read, the program ends as `run_words` would end.
+    // If the arguments could be read, the program ends in the same way as `run_words`.
     ensures ends { OnOk words (LineEnds O.contents (line_read words) (record {
       unread = I.remaining input.old;
       before = O.contents output.old;

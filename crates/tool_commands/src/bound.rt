@@ -77,7 +77,7 @@ fn executable_status(refusal: &ExecutableRefusal) -> Status
     }
 }
 
-/// If there is memory for the line, reports why there is no executable file. Returns the status.
+/// Reports why there is no executable file, if there is memory for the line. Returns the status.
 fn say_executable_refusal<E: Write>(
     alloc: Global,
     refusal: &ExecutableRefusal,

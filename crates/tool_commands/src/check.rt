@@ -24,7 +24,7 @@ use store::{Store, StoreRefusal};
 use text_output::WriteFault;
 use tool_parts::{cannot_write, say_refusal};
 
-/// Appends a line with each library's finding to the buffered text, in the order of the libraries.
+/// Appends a line for each library's finding to the buffered text, in the order of the libraries.
 fn put_findings<D: Disk, W: Write>(
     store: &Store<D>,
     findings: &[Finding],
@@ -43,7 +43,7 @@ fn put_findings<D: Disk, W: Write>(
     Ok(())
 }
 
-/// Appends a line with each library's finding, and then the line `end`, to the buffered text.
+/// Appends a line for each library's finding, and then the line `end`, to the buffered text.
 fn put_check<D: Disk, W: Write>(
     store: &Store<D>,
     findings: &[Finding],
@@ -59,7 +59,7 @@ fn put_check<D: Disk, W: Write>(
     line.put(out, b"end\n")
 }
 
-/// Writes a line with each library's finding, and then the line `end`.
+/// Writes a line for each library's finding, and then the line `end`.
 fn write_findings<D: Disk, W: Write>(
     store: &Store<D>,
     findings: &[Finding],
@@ -123,7 +123,7 @@ fn tell_findings<D: Disk, O: Write, E: Write>(
     }
 }
 
-/// Reads each library. Then writes a line with each library's finding, in the order of the
+/// Reads each library. Then writes a line for each library's finding, in the order of the
 /// libraries, and the line `end`.
 pub fn run_check<D: Disk, O: Write, E: Write>(
     contents: &mut Contents<D>,
@@ -141,7 +141,7 @@ pub fn run_check<D: Disk, O: Write, E: Write>(
           errors_after = E.contents errors.new;
         }) result }
 
-    // The following holds on any disk.
+    // The clauses from here on hold on any disk, honest or not.
     ensures told { CheckTells (D.facts contents.old.disk) (D.facts contents.new.disk) (record {
       before = O.contents output.old;
       after = O.contents output.new;

@@ -13,9 +13,8 @@ use std::fs::File;
 use std::io::{Read, Write};
 use std::rt::{Clock, Files};
 
-/// Carries out the action in `asked`, unless a standard stream is open, or may be open, to the
-/// disk's file. With such a stream the output could be written into the disk, or the input could be
-/// read from the disk.
+/// Carries out the action of `asked`, unless a standard stream leads, or may lead, to the disk's
+/// file. Such a stream could write the output into the disk, or read the input from the disk.
 fn run_apart<R: Files<File = File> + Clock, I: Read, O: Write, E: Write>(
     rt: &R,
     alloc: Global,
@@ -42,9 +41,9 @@ fn run_apart<R: Files<File = File> + Clock, I: Read, O: Write, E: Write>(
 }
 
 /// Runs the program with `words`, the arguments after the program's name, and returns the exit
-/// status. The status is 0 if the action was carried out, 1 if it was refused, and 2 if the
-/// arguments have none of the forms. It is 3 if the disk, its file or a stream failed, and 4 if
-/// memory was refused. Only `update` reads the input.
+/// status. The status is 0 if the action was carried out, 1 if it was refused, 2 if the arguments
+/// have none of the forms, 3 if the disk, its file or a stream failed, and 4 if memory was refused.
+/// Only `update` reads the input.
 pub fn run_words<R: Files<File = File> + Clock, I: Read, O: Write, E: Write>(
     rt: &R,
     alloc: Global,
@@ -55,8 +54,8 @@ pub fn run_words<R: Files<File = File> + Clock, I: Read, O: Write, E: Write>(
 ) -> u8
     ensures most { result ≤ 4 }
 
-    // How the program ends with these arguments: its status, its output, and its messages on
-    // standard error. The status is 2 if and only if the arguments have none of the forms.
+    // The program ends with the status, output and messages that these arguments permit. The status
+    // is 2 if and only if the arguments have none of the forms.
     ensures ends { LineEnds O.contents (command_line (map (λ word. string_bytes word) words.now))
         (record {
           unread = I.remaining input.old;
@@ -70,17 +69,17 @@ pub fn run_words<R: Files<File = File> + Clock, I: Read, O: Write, E: Write>(
     ensures unread { asks_for reads_input (command_line (map (λ word. string_bytes word) words.now))
         ≡ false → input.new ≡ input.old }
 
-    // If the arguments have none of the forms, nothing is written to the output.
+    // If the arguments have none of the forms, the program writes nothing to the output.
     ensures same { command_line (map (λ word. string_bytes word) words.now) ≡ None
         → output.new ≡ output.old }
 
-    // With status 0 nothing is written to standard error, except when an executable file is
-    // written.
+    // With status 0, the program writes nothing to standard error, unless it writes an executable
+    // file.
     ensures silent { asks_for warns (command_line (map (λ word. string_bytes word) words.now))
         ≡ false → result ≡ 0 → E.contents errors.new ≡ E.contents errors.old }
 
-    // Unless the status is 3, or the form may write to both the output and standard error, at most
-    // one of the two is written to.
+    // The program writes to the output or to standard error, but not to both, unless the status is
+    // 3 or the form may write to both.
     ensures apart { asks_for says_beside (command_line (map (λ word. string_bytes word) words.now))
         ≡ false → result ≢ 3 → (E.contents errors.new ≡ E.contents errors.old)
         ⊎ (O.contents output.new ≡ O.contents output.old) }

@@ -27,7 +27,7 @@ use store::{Store, StoreRefusal};
 use text_output::WriteFault;
 use tool_parts::{cannot_write, say_refusal};
 
-/// Appends the lines that belong on `stream` to the buffered text, in the order of the libraries.
+/// Appends the lines for `stream` to the buffered text, in the order of the libraries.
 fn put_stream<D: Disk, W: Write>(
     store: &Store<D>,
     digests: &[Option<[u8; 32]>],
@@ -46,7 +46,7 @@ fn put_stream<D: Disk, W: Write>(
     Ok(())
 }
 
-/// Writes to `out` the lines that belong on `stream`.
+/// Writes the lines for `stream` to `out`.
 fn write_stream<D: Disk, W: Write>(
     store: &Store<D>,
     digests: &[Option<[u8; 32]>],
@@ -63,7 +63,7 @@ fn write_stream<D: Disk, W: Write>(
     line.send(out)
 }
 
-/// Returns whether each library could be read, and so has a digest.
+/// Returns whether each library could be read. If so, each library has a digest.
 fn are_read(digests: &[Option<[u8; 32]>]) -> bool
     ensures { result ≡ are_read digests.now }
 {
@@ -88,7 +88,7 @@ fn unread_lines<D: Disk>(
     }
 }
 
-/// If there is memory for the lines, reports which libraries can't be read.
+/// Reports the libraries that can't be read, if there is memory for the lines.
 fn say_unread<D: Disk, E: Write>(
     store: &Store<D>,
     alloc: Global,
@@ -106,7 +106,7 @@ fn say_unread<D: Disk, E: Write>(
     }
 }
 
-/// If libraries can't be read, reports which ones. Returns the status.
+/// Reports the libraries that can't be read, if there are any. Returns the status.
 fn end_digests<D: Disk, E: Write>(
     store: &Store<D>,
     alloc: Global,
@@ -152,8 +152,8 @@ fn tell_digests<D: Disk, O: Write, E: Write>(
 }
 
 /// Reads each library, and then writes the digests in the order of the libraries. The lines have
-/// the form that GNU sha256sum prints. A library that can't be read has no line on the output, and
-/// is reported on standard error. Doesn't test whether the files are libraries.
+/// the format of GNU sha256sum. A library that can't be read has no line on the output, but one on
+/// standard error. Doesn't test whether the files are libraries.
 pub fn run_digest<D: Disk, O: Write, E: Write>(
     contents: &mut Contents<D>,
     alloc: Global,
@@ -169,7 +169,7 @@ pub fn run_digest<D: Disk, O: Write, E: Write>(
           errors_after = E.contents errors.new;
         }) result }
 
-    // The following holds on any disk.
+    // The clauses from here on hold on any disk, honest or not.
     ensures told { DigestTells (D.facts contents.old.disk) (D.facts contents.new.disk) (record {
       before = O.contents output.old;
       after = O.contents output.new;

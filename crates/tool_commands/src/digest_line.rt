@@ -1,5 +1,4 @@
-// Appends the line for a library's digest to a buffered text, in the form that GNU sha256sum
-// prints.
+// Appends the line for a library's digest to a buffered text, in the format of GNU sha256sum.
 
 ghost use Rattle.std.specs.Prelude.{◌≡◌, OnOk};
 ghost use Rattle.std.specs.List.{flat_map, list_any};
@@ -16,14 +15,14 @@ use text_output::WriteFault;
 /// The number of hexadecimal digits of a digest.
 const DIGITS: usize = 64;
 
-/// Returns whether a line has an escape in place of `byte`.
+/// Returns whether a line has an escape instead of `byte`.
 fn is_escaped(byte: u8) -> bool
     ensures { result ≡ is_escaped byte }
 {
     byte == b'\\' || byte == b'\n' || byte == b'\r'
 }
 
-/// Returns whether some byte of a name is escaped.
+/// Returns whether `name` has a byte that is escaped.
 fn has_escape(name: &[u8]) -> bool
     ensures { result ≡ list_any is_escaped name.now }
 {
@@ -89,9 +88,9 @@ fn put_sum<W: Write>(
     line.put(out, b"\n")
 }
 
-/// Appends to the buffered text the line that `stream` gets for a library named `name`. The output
-/// has a line only for a library that could be read, and standard error only for a library that
-/// couldn't be read.
+/// Appends the line for `stream` and the library `name` to the buffered text. The output has a line
+/// only for a library that could be read, and standard error only for a library that couldn't be
+/// read.
 pub(crate) fn put_stream_line<W: Write>(
     stream: Stream,
     line: &mut Line,

@@ -1,4 +1,4 @@
-// Writes the script that makes a registry again.
+// Writes the script that makes the same registry again.
 
 ghost use Rattle.std.specs.Prelude.{◌≡◌, ◌++◌, ◌<◌, ℕ, List, IfOk, IfSome, OnOk, length};
 ghost use Rattle.std.specs.Prelude.{slice_index_or};
@@ -35,7 +35,7 @@ use store::{Store, StoreRefusal};
 use text_output::{PieceBuffer, WriteFault};
 use tool_parts::{cannot_write, say_refusal};
 
-/// The library at which a script was cut, and the reason.
+/// The library before which a script was cut, and the reason.
 #[derive(Clone, Copy, PartialEq, Eq)]
 struct Cut {
     position: usize,
@@ -60,7 +60,7 @@ fn put_install<W: Write>(
 
 /// Appends the lines that install the libraries to the buffered text, in the order of the
 /// libraries. Has one library in memory at a time. Stops at the first library whose file
-/// `sound_file` doesn't return, and returns this cut.
+/// `sound_file` refuses, and returns this cut.
 fn put_libraries<D: Disk, W: Write>(
     contents: &mut Contents<D>,
     alloc: Global,
@@ -107,7 +107,7 @@ fn put_preload_names<D: Disk, W: Write>(
     Ok(())
 }
 
-/// If there are preloads, appends the line that sets them to the buffered text.
+/// Appends the line that sets the preloads to the buffered text, if there are preloads.
 fn put_preloads<D: Disk, W: Write>(
     store: &Store<D>,
     script: &mut PieceBuffer,
@@ -126,7 +126,7 @@ fn put_preloads<D: Disk, W: Write>(
     Ok(())
 }
 
-/// If the script is for an update, appends the line `commit` to the buffered text.
+/// Appends the line `commit` to the buffered text, if the script is for an update.
 fn put_commit<W: Write>(
     purpose: Purpose,
     script: &mut PieceBuffer,
@@ -145,8 +145,9 @@ fn put_commit<W: Write>(
     }
 }
 
-/// Appends the text after the lines for the libraries to the buffered text. If the script is cut,
-/// this text is `cut` without a newline. Otherwise it is the preloads and, for an update, `commit`.
+/// Appends the end of the script, after the lines for the libraries, to the buffered text. If the
+/// script is cut, this is `cut` without a newline. Otherwise it is the line for the preloads and,
+/// for an update, `commit`.
 fn put_end<D: Disk, W: Write>(
     store: &Store<D>,
     purpose: Purpose,
@@ -209,7 +210,7 @@ fn spell_finding(
     line.send(spelt)
 }
 
-/// If there is memory for the line, reports `finding` for the library named `name`. Returns the
+/// Reports `finding` for the library named `name`, if there is memory for the line. Returns the
 /// status.
 fn say_finding<E: Write>(
     alloc: Global,
@@ -261,7 +262,7 @@ fn say_cut<D: Disk, E: Write>(store: &Store<D>, alloc: Global, cut: Cut, errors:
     }
 }
 
-/// If a script was cut, reports why. Returns the status.
+/// Reports why the script was cut, if it was cut. Returns the status.
 fn end_dump<D: Disk, E: Write>(
     store: &Store<D>,
     alloc: Global,
@@ -279,11 +280,11 @@ fn end_dump<D: Disk, E: Write>(
     }
 }
 
-/// Writes the script that makes the registry again: an `install` line for each library, in the
+/// Writes the script that makes the same registry again: an `install` line for each library, in the
 /// order of the libraries; a `preload` line if there are preloads; and for an update the line
-/// `commit`. One library is in memory at a time. Each sector of a library is read once. If a file
-/// can't be read, or isn't a library with its entry's name, or memory is refused, the script ends
-/// with `cut`, without a newline.
+/// `commit`. Has one library in memory at a time, and reads each sector of a library once. If a
+/// file can't be read, or isn't a library with its entry's name, or memory is refused, the script
+/// ends with `cut`, without a newline.
 pub fn run_dump<D: Disk, O: Write, E: Write>(
     contents: &mut Contents<D>,
     alloc: Global,
@@ -300,7 +301,7 @@ pub fn run_dump<D: Disk, O: Write, E: Write>(
           errors_after = E.contents errors.new;
         }) result }
 
-    // The following holds on any disk.
+    // The clauses from here on hold on any disk, honest or not.
     ensures told { DumpTells (D.facts contents.old.disk) (D.facts contents.new.disk) purpose
         (record {
           before = O.contents output.old;

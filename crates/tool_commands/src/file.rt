@@ -48,7 +48,7 @@ fn say_unread<E: Write>(alloc: Global, unread: Unread, errors: &mut E) -> Status
     }
 }
 
-/// Writes exactly the bytes of the library named `name`. Doesn't test whether the file is a
+/// Writes exactly the bytes of the library named `name`. Doesn't test whether these bytes are a
 /// library.
 pub fn run_file<D: Disk, O: Write, E: Write>(
     contents: &mut Contents<D>,
@@ -66,7 +66,7 @@ pub fn run_file<D: Disk, O: Write, E: Write>(
           errors_after = E.contents errors.new;
         }) result }
 
-    // The following holds on any disk.
+    // The clauses from here on hold on any disk, honest or not.
     ensures told { FileTells (D.facts contents.old.disk) (D.facts contents.new.disk) (record {
       before = O.contents output.old;
       after = O.contents output.new;

@@ -12,39 +12,38 @@ use program_parts::parse_base;
 /// The purpose of a script.
 #[derive(Clone, Copy, PartialEq, Eq)]
 pub enum Purpose {
-    /// The script is for `rlibreg script`, which carries out each line before it reads the next
-    /// line.
+    /// A script for `rlibreg script`, which carries out each line before it reads the next line.
     Script,
-    /// The script is for an update, which carries out all lines together at the end. The script's
-    /// last line is `commit`.
+    /// A script for an update, which carries out all lines together at the end. Its last line is
+    /// `commit`.
     Update,
 }
 
-/// A question about a disk.
+/// A question about a disk, which a form answers.
 #[derive(Clone, Copy, PartialEq, Eq)]
 pub enum Form<'a> {
-    /// Writes the numbers of the whole registry.
+    /// Asks for the numbers of the whole registry.
     Info,
-    /// Tests each library, and writes a line with the library's finding.
+    /// Asks for a test of each library, and a line with its finding.
     Check,
-    /// Writes the digest of each library.
+    /// Asks for the digest of each library.
     Digest,
-    /// Writes the bytes of the library with the given name.
+    /// Asks for the bytes of the library with the given name.
     File(&'a str),
-    /// Writes the script that makes the registry again.
+    /// Asks for the script that makes the same registry again.
     Dump(Purpose),
 }
 
-/// The action on a disk that the arguments ask for.
+/// An action on a disk, which the arguments request.
 #[derive(Clone, Copy, PartialEq, Eq)]
 pub enum Action<'a> {
-    /// Answers a question about the disk's contents. The disk is only read.
+    /// Answers a question about the disk's contents. Only reads the disk.
     Tell(Form<'a>),
-    /// Replaces the library with the same name by the file at the given path.
+    /// Replaces the library that has the same name as the file at the given path.
     Replace(&'a str),
     /// Removes the library with the given name.
     Remove(&'a str),
-    /// Makes all the changes that the lines of the input ask for, in one commit.
+    /// Makes all the changes that the lines of the input request, in one commit.
     Update,
     /// Writes the executable file of a bound program.
     Executable {
@@ -53,7 +52,7 @@ pub enum Action<'a> {
         /// The address at which the program is bound.
         base: u64,
     },
-    /// Writes what the symbols of a program are bound to.
+    /// Writes the bindings of a program's symbols.
     Bindings {
         /// The path of the program's file.
         program: &'a str,
@@ -62,7 +61,7 @@ pub enum Action<'a> {
     },
 }
 
-/// The path of the disk and the action that the arguments name.
+/// The path of the disk, and the action, that the arguments name.
 #[derive(Clone, Copy, PartialEq, Eq)]
 pub struct Asked<'a> {
     /// The path of the disk.
@@ -82,8 +81,8 @@ fn read_disk<'a>(action: Action<'a>, words: &'a [String]) -> Option<Asked<'a>>
     }
 }
 
-/// Returns the purpose of a dump that `word`, the argument after DISK, names. Returns `None` if
-/// `word` isn't `commit`.
+/// Returns the purpose of a dump for `word`, the argument after DISK. Returns `None` if `word`
+/// isn't `commit`.
 fn read_purpose(word: &str) -> Option<Purpose>
     ensures { result ≡ purpose_of word.now }
 {

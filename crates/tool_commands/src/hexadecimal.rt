@@ -8,7 +8,7 @@ ghost use Rattle.text_output.specs.Pieces.{EndsWithinLine};
 use std::io::Write;
 use text_output::{PieceBuffer, WriteFault};
 
-/// The number of bytes that are encoded at once.
+/// The maximum number of bytes that are encoded at once.
 const PIECE_BYTES: usize = 32;
 
 /// Appends bytes in lower-case hexadecimal to the buffered text, without a newline.

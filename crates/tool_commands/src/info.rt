@@ -140,7 +140,7 @@ pub fn run_info<D: Disk, O: Write, E: Write>(
           errors_after = E.contents errors.new;
         }) result }
 
-    // The following holds on any disk.
+    // The clauses from here on hold on any disk, honest or not.
     ensures told { InfoTells (record {
       before = O.contents output.old;
       after = O.contents output.new;

@@ -1,12 +1,12 @@
 //! The work of the program `rlibreg-tool`, as functions that other programs can call.
 //!
 //! `run_info`, `run_check`, `run_digest`, `run_file` and `run_dump` report the contents of a disk:
-//! the numbers of the registry, whether each file is a library, the digests of the files, the bytes
-//! of one library, and the script that makes the registry again.
+//! the numbers of the registry, the findings for the files, the digests of the files, the bytes of
+//! one library, and the script that makes the same registry again.
 //!
 //! `run_form` opens any disk and calls one of these functions. `run_request` applies a command to a
-//! disk's registry, even if some files aren't libraries, and writes the reply as `Telling`
-//! determines. `run_bindings` writes what the symbols of a program are bound to.
+//! disk's registry, even if some files aren't libraries, and writes the reply in the way that
+//! `Telling` determines. `run_bindings` writes the bindings of a program's symbols.
 //!
 //! `run_words` reads the arguments of a command line, opens the disk's file and carries out the
 //! action. `run_arguments` does the same with the arguments of the process. The crate `updates`

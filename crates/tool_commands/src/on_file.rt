@@ -109,7 +109,7 @@ fn not_read<E: Write>(alloc: Global, path: &str, fault: FileFault, errors: &mut 
     }
 }
 
-/// Reads a file, and then opens the disk and makes a request with the file's bytes.
+/// Reads a file, then opens the disk, and makes a request with the file's bytes.
 fn ask_with<R: Files<File = File> + Clock, O: Write, E: Write>(
     rt: &R,
     alloc: Global,
@@ -144,8 +144,8 @@ fn ask_with<R: Files<File = File> + Clock, O: Write, E: Write>(
     }
 }
 
-/// Opens the disk only for reading, and writes what the symbols of a program are bound to. Keeps
-/// the disk locked until the output is written.
+/// Opens the disk only for reading, and writes the bindings of a program's symbols. Keeps the disk
+/// locked until the output is written.
 fn tell_bindings<R: Files<File = File> + Clock, O: Write, E: Write>(
     rt: &R,
     alloc: Global,
@@ -172,7 +172,7 @@ fn tell_bindings<R: Files<File = File> + Clock, O: Write, E: Write>(
     }
 }
 
-/// Reads a program, and then opens the disk and writes what the program's symbols are bound to.
+/// Reads a program, then opens the disk, and writes the bindings of the program's symbols.
 fn tell_file_bindings<R: Files<File = File> + Clock, O: Write, E: Write>(
     rt: &R,
     alloc: Global,

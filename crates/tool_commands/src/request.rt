@@ -36,9 +36,9 @@ fn answer<D: Disk, O: Write, E: Write>(
     tell(alloc, telling, &reply, output, errors)
 }
 
-/// Opens the registry on `disk` without testing its libraries. So a library that is damaged or
-/// can't be read can be replaced or removed, and doesn't prevent changes of other libraries.
-/// Applies `command`, and writes the reply. If the disk is refused, reports why. Returns the status
+/// Opens the registry on `disk` without testing its libraries, applies `command`, and writes the
+/// reply. A command can replace or remove a library that is damaged or can't be read, and can
+/// change other libraries in spite of it. If the disk is refused, reports why. Returns the status
 /// and the disk. If the output fails, the status is `Failed`, although the command was applied.
 pub fn run_request<D: Disk, O: Write, E: Write>(
     alloc: Global,

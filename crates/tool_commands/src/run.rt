@@ -23,7 +23,7 @@ use std::io::Write;
 use text_output::{OutputBuffer, PIECE, WriteFault};
 use tool_parts::say_refusal;
 
-/// Writes `cut` as the whole script, so that nobody takes the output for a complete script.
+/// Writes `cut` as the whole script, so that no reader takes the output for a complete script.
 fn cut_script<O: Write>(output: &mut O) -> Result<(), WriteFault>
     ensures { OnOk result (Appends (O.contents output.old) (O.contents output.new) (codes "cut")) }
 {

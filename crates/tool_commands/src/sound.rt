@@ -31,7 +31,7 @@ impl From<AllocError> for Lack {
     }
 }
 
-/// If `file` is a library named `name`, returns `file`. Otherwise returns the reason why not.
+/// Returns `file` if it is a library named `name`, and otherwise the reason why it isn't.
 fn tested(alloc: Global, name: &[u8], file: Vec<u8>) -> Result<Vec<u8>, Lack>
     ensures ok { IfOk result (λ f. (f.items ≡ file.items)
         × IsLibrary (record { name = name.now; bytes = file.items })) }
@@ -45,8 +45,8 @@ fn tested(alloc: Global, name: &[u8], file: Vec<u8>) -> Result<Vec<u8>, Lack>
     }
 }
 
-/// Reads the file of the library at `position`, and returns it if it is a library with its entry's
-/// name. Reads each sector of the file once.
+/// Returns the file of the library at `position`, if it is a library with its entry's name. Reads
+/// each sector of the file once.
 pub(crate) fn sound_file<D: Disk>(
     contents: &mut Contents<D>,
     alloc: Global,

@@ -1,4 +1,4 @@
-// The two streams that a form writes to.
+// The two streams to which a form writes.
 
 /// A stream to which a form writes a line.
 #[derive(Clone, Copy, PartialEq, Eq)]

@@ -1,4 +1,4 @@
-// Writes what the symbols of a program and its libraries are bound to.
+// Writes the bindings of the symbols of a program and its libraries.
 
 ghost use Rattle.std.specs.Prelude.{◌≡◌, true, None};
 ghost use Rattle.scope.specs.LoadOrder.{available, names_of};
@@ -40,7 +40,7 @@ fn say_refused<E: Write>(alloc: Global, refusal: Refusal, errors: &mut E) -> Sta
     say_reply(alloc, &Reply::Refused(refusal), errors)
 }
 
-/// Writes what the symbols of the placed objects are bound to, or reports that the output failed.
+/// Writes the bindings of the placed objects' symbols, or reports that the output failed.
 fn write_bindings<O: Write, E: Write>(
     bindings: &Bindings<'_>,
     output: &mut O,
@@ -60,8 +60,8 @@ fn write_bindings<O: Write, E: Write>(
     }
 }
 
-/// Places the objects of `order`, with the program at the address `base`, and writes what the
-/// objects' symbols are bound to. If the objects can't be placed, reports why.
+/// Places the objects of `order`, with the program at `base`, and writes the bindings of the
+/// objects' symbols. If the objects can't be placed, reports why.
 fn tell_placed<O: Write, E: Write>(
     alloc: Global,
     order: &Order<'_>,
@@ -83,7 +83,7 @@ fn tell_placed<O: Write, E: Write>(
     }
 }
 
-/// Writes what the symbols of a program and of all the libraries that it needs are bound to.
+/// Writes the bindings of the symbols of a program and of all the libraries that it needs.
 fn tell_whole<O: Write, E: Write>(
     alloc: Global,
     program: &Admitted<'_>,
@@ -127,8 +127,7 @@ fn write_dependencies<O: Write, E: Write>(
     }
 }
 
-/// Writes which libraries were found and which names are missing, for a program that lacks
-/// libraries.
+/// Writes the found libraries and the missing names, for a program that lacks libraries.
 fn tell_lacking<O: Write, E: Write>(
     alloc: Global,
     program: &Admitted<'_>,
@@ -150,8 +149,8 @@ fn tell_lacking<O: Write, E: Write>(
     }
 }
 
-/// Writes what the symbols of a program are bound to, with the libraries in `found`. If names are
-/// missing, writes instead which libraries are found and which names are missing.
+/// Writes the bindings of a program's symbols with the libraries in `found`. If names are missing,
+/// writes the found libraries and the missing names instead.
 fn tell_found<O: Write, E: Write>(
     alloc: Global,
     program: &Admitted<'_>,
@@ -180,7 +179,7 @@ fn tell_found<O: Write, E: Write>(
     }
 }
 
-/// Finds the libraries of an admitted program, and writes what the symbols are bound to.
+/// Finds the libraries of an admitted program, and writes the bindings of the symbols.
 fn tell_admitted<D: Disk, O: Write, E: Write>(
     registry: &mut Registry<D>,
     alloc: Global,
@@ -203,8 +202,7 @@ fn tell_admitted<D: Disk, O: Write, E: Write>(
     }
 }
 
-/// Writes what the symbols of a program at the address `base` are bound to, or reports why this
-/// isn't possible.
+/// Writes the bindings of the symbols of a program at `base`, or reports why this is impossible.
 fn tell_program<D: Disk, O: Write, E: Write>(
     registry: &mut Registry<D>,
     alloc: Global,
@@ -227,11 +225,11 @@ fn tell_program<D: Disk, O: Write, E: Write>(
 }
 
 /// Opens the registry on `disk` without testing its libraries, and binds the symbols of a program
-/// at the address `base`. Writes what each symbol that a relocation names is bound to, object by
-/// object in load order. If needed names aren't installed, writes instead which libraries are
-/// found, and all names that are missing. If neither is possible, reports why. Reads only the
-/// libraries that the program needs, and returns the status and the disk. The status is `Refused`
-/// if a symbol is undefined or a name is missing.
+/// at `base`. Writes the binding of each symbol to which a relocation refers, object by object in
+/// load order. If needed names aren't installed, writes the found libraries and all missing names
+/// instead. If neither is possible, reports why. Reads only the libraries that the program needs.
+/// Returns the status and the disk. The status is `Refused` if a symbol is undefined or a name is
+/// missing.
 pub fn run_bindings<D: Disk, O: Write, E: Write>(
     alloc: Global,
     disk: D,

@@ -16,13 +16,13 @@ use std::io::Write;
 use text_output::WriteFault;
 use tool_parts::cannot_write;
 
-/// How a reply is written.
+/// The way in which a reply is written.
 #[derive(Clone, Copy, PartialEq, Eq)]
 pub enum Telling {
-    /// The text of the reply goes to the output.
+    /// The text of the reply is written to the output.
     Text,
-    /// An image goes to the output as an executable file. The text of any other reply goes to
-    /// standard error.
+    /// An image is written to the output as an executable file. The text of any other reply is
+    /// written to standard error.
     Executable,
 }
 
@@ -52,7 +52,7 @@ fn spell_reply(line: &mut Vec<u8>, reply: &Reply) -> Result<(), WriteFault>
     text.send(line)
 }
 
-/// If there is memory for the line, writes the line of a reply to standard error. Returns the
+/// Writes the line of a reply to standard error, if there is memory for the line. Returns the
 /// status.
 pub(crate) fn say_reply<E: Write>(alloc: Global, reply: &Reply, errors: &mut E) -> Status
     ensures status { result ≡ reply_status reply.now }
@@ -66,7 +66,7 @@ pub(crate) fn say_reply<E: Write>(alloc: Global, reply: &Reply, errors: &mut E) 
     Status::of_reply(reply)
 }
 
-/// Writes `reply` in the way that `telling` names. If the output fails, returns `Failed`.
+/// Writes `reply` in the way that `telling` determines. If the output fails, returns `Failed`.
 pub(crate) fn tell<O: Write, E: Write>(
     alloc: Global,
     telling: Telling,

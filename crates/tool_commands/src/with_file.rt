@@ -12,7 +12,7 @@ use requests::Command;
 /// A request to a registry that needs the bytes of a file.
 #[derive(Clone, Copy)]
 pub(crate) enum WithFile {
-    /// Replaces the library with the same name by the file.
+    /// Replaces the library that has the same name as the file by the file.
     Replace,
     /// Binds the program in the file, and writes its executable file.
     Executable {
@@ -45,7 +45,7 @@ impl WithFile {
         }
     }
 
-    /// Returns how the reply is written.
+    /// Returns the way in which the reply is written.
     pub(crate) fn telling(self) -> Telling
         ensures { result ≡ telling_of self }
     {

@@ -6,7 +6,7 @@ use Rattle.program_parts.specs.declared.status.Status.{Status}
 use Rattle.program_parts.specs.declared.status.Status.TheVariants.{Failed}
 use Rattle.tool_parts.specs.Said.{cannot_write_line}
 
--- the bytes that the output and standard error hold before and after; each is none if it isn't known
+-- the bytes of the output and of standard error before and after; each is none if it isn't known
 pub record Streams : Type 0 where
   pub before : Option (List ℕ)
   pub after : Option (List ℕ)
@@ -25,7 +25,7 @@ IsSilent io = io.errors_after ≡ io.errors_before
 abbrev pub Tells : Streams → List ℕ → Type 0
 Tells io text = Appends io.before io.after text
 
--- exactly a prefix of this line was written to standard error, perhaps the empty one
+-- exactly a prefix of this line was written to standard error; the prefix may be empty
 abbrev pub Says : Streams → List ℕ → Type 0
 Says io line = AppendsFront io.errors_before io.errors_after line
 
@@ -33,7 +33,7 @@ Says io line = AppendsFront io.errors_before io.errors_after line
 abbrev pub CannotWrite : Streams → Status → Type 0
 CannotWrite io status = (status ≡ Failed) × Says io cannot_write_line
 
--- Either exactly `text` was written to the output, nothing was written to standard error, and the status
+-- Exactly `text` was written to the output, nothing was written to standard error, and the status
 -- is `ends`; or the output failed.
 abbrev pub TellsOnly : Status → List ℕ → Streams → Status → Type 0
 TellsOnly ends text io status = ((status ≡ ends) × Tells io text × IsSilent io) ⊎ CannotWrite io status

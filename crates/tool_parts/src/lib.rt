@@ -1,6 +1,5 @@
-//! How the forms of `rlibreg-tool` write their output and their messages: the bytes that the output
-//! and standard error hold before and after, and the lines that several forms write to standard
-//! error.
+//! The output and the messages of the forms of `rlibreg-tool`: the bytes of the output and of
+//! standard error before and after, and the lines that several forms write to standard error.
 #![tactic(auto)]
 
 mod said;

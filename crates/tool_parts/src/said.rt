@@ -22,7 +22,7 @@ fn spell_refusal(line: &mut Vec<u8>, refusal: StoreRefusal) -> Result<(), WriteF
     text.send(line)
 }
 
-/// If there is memory for the line, reports why a disk is refused. Returns the status.
+/// Reports why a disk is refused, if there is memory for the line. Returns the status.
 pub fn say_refusal<E: Write>(alloc: Global, refusal: StoreRefusal, errors: &mut E) -> Status
     ensures status { result ≡ disk_status refusal }
     ensures said { AppendsFront (E.contents errors.old) (E.contents errors.new)

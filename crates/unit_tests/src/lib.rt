@@ -1,5 +1,5 @@
-//! Tests of the libraries below the registry, through their public calls. They test what no clause
-//! and no stored case shows.
+//! Tests of the libraries below the registry, through their public calls. They test facts that no
+//! clause and no stored case shows.
 #![tactic(auto)]
 
 #[cfg(test)]

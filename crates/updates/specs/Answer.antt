@@ -1,4 +1,4 @@
--- The texts that answer the lines of an update (own).
+-- The answers to the lines of an update (own).
 use Rattle.std.specs.Prelude.{ℕ, List, codes}
 use Rattle.std.specs.List.{flat_map}
 use Rattle.requests.specs.declared.reply.Reply.{Reply}
@@ -10,7 +10,7 @@ use Rattle.updates.specs.declared.answer.UpdateRefusal.{UpdateRefusal}
 use Rattle.updates.specs.declared.answer.UpdateRefusal.TheVariants as update
 
 -- the text of an answer to a line: `planned` for a change, because it isn't on the disk yet, and
--- `bound` for a bind, because its image is of a state that may never be on the disk
+-- `bound` for a bind, because the state of its image may never be on the disk
 abbrev pub plan_text : Reply → List ℕ
 plan_text Done = codes "planned\n"
 plan_text (Bound image) = codes "bound\n"
@@ -20,7 +20,7 @@ plan_text reply = reply_text reply
 abbrev pub plan_texts : List Reply → List ℕ
 plan_texts replies = flat_map plan_text replies
 
--- the text that reports why an update is refused
+-- the text about a refused update
 abbrev pub update_refusal_text : UpdateRefusal → List ℕ
 update_refusal_text update.BadLine = line_refusal_text line.BadLine
 update_refusal_text update.CutLine = line_refusal_text line.CutLine

@@ -1,4 +1,4 @@
--- How the commit of an update ends (own).
+-- The ends of the commit of an update (own).
 use Rattle.std.specs.Prelude.{◌≡◌, ◌⊎◌, List, Result, OnOk, OnErr, length}
 use Rattle.sector_disk.specs.Disk.{DiskFacts, LeavesOnly}
 use Rattle.states.specs.State.{State}
@@ -28,9 +28,9 @@ pub record Commits {D : Type 0} (facts : D → DiskFacts) (u : Drafted D) (answe
       → (s' : State) × UpdatesAt facts (point old s) requests (answer_of answer) (point new s')
   -- the held byte strings stay unchanged
   pub held : KeepsHeld facts u.store new
-  -- the other fields hold on any disk, even on a disk that lies
+  -- the other fields hold on any disk, honest or not
   pub on_any_disk : Changed facts Device Reopen u.store new (commit_calls u.touched (length u.entries)) (λ e. (e ≡ Device) ⊎ (e ≡ Reopen)) answer
   pub given_up : OnErr answer ((new.root ≡ u.store.root) × (new.entries ≡ u.store.entries) × (new.held ≡ u.store.held))
   pub entries : OnOk answer (new.entries ≡ u.entries)
-  -- if the draft has no change, nothing is done
+  -- if the draft has no change, the commit does nothing
   pub same : u.touched ≡ Nothing → new ≡ u.store

@@ -1,5 +1,5 @@
--- How an update ends on the disk that it is given: its effect on the disk, its output and its messages
--- (own).
+-- The end of an update on the disk that it gets: its effect on the disk, its output and its
+-- messages (own).
 use Rattle.std.specs.Prelude.{◌≡◌, ◌⊎◌, ◌↔◌, ◌++◌, ℕ, List, [], ◌∷◌, Option, Result, Ok, Err, OnOk, IsTrue, false}
 use Rattle.std.specs.Io.{StopsAt}
 use Rattle.std.specs.Io.KnownBytes.{Appends}
@@ -37,20 +37,20 @@ use Rattle.updates.specs.Update.{requests_of}
 use Rattle.updates.specs.declared.answer.UpdateRefusal.{UpdateRefusal}
 
 module _ {D : Type 0} (facts : D → DiskFacts) (disk : D) where
-  -- The registry on the disk was opened, whatever named byte strings it holds, and the lines were
-  -- planned in a draft.
+  -- The registry on a disk with any named byte strings was opened, and the lines were planned in a
+  -- draft.
   pub record IsBegun (lines : List (List ℕ)) (answers : List Reply) (u : Drafted D) : Type 0 where
     pub old : Opened D
-    -- opening the disk read no library's file
+    -- the opening of the disk read no library's file
     pub opened : OpensByEntries facts disk (Ok old)
     pub planned : ArePlanned facts (begun old) u lines answers
-    -- the draft has a change if and only if a line asks for a change
+    -- the draft has a change if and only if a line requests a change
     pub changed : (u.touched ≡ Nothing) ↔ (list_any asks_change (requests_of lines) ≡ false)
     -- on an honest disk the lines are an update of the state that the disk holds
     pub update : IsTrue (facts disk).honest → (s : State) → Stands (facts disk).now s → IsUpdate facts (begun old) u s (requests_of lines) answers
 
-  -- a stop at any moment leaves what a stop could leave before, or the state that the disk holds;
-  -- `Holds` defines when sectors hold a state
+  -- a stop at any moment leaves contents that a stop could leave before, or the state that the disk
+  -- holds; `Holds` defines when sectors hold a state
   abbrev pub LeavesStandingBy : (List Sector → State → Type 0) → D → Type 0
   LeavesStandingBy Holds left = IsTrue (facts disk).honest → (s : State) → Holds (facts disk).now s
       → LeavesOnly (facts disk) (facts left) (λ m. Mixture (facts disk) m ⊎ Holds m s)
@@ -60,8 +60,8 @@ module _ {D : Type 0} (facts : D → DiskFacts) (disk : D) where
   abbrev pub LeavesStanding : D → Type 0
   LeavesStanding left = LeavesStandingBy Stands left × LeavesStandingBy registry.Stands left
 
-  -- a stop at any moment leaves what a stop could leave before, the state that the disk holds, or the
-  -- updated state
+  -- a stop at any moment leaves contents that a stop could leave before, the state that the disk
+  -- holds, or the updated state
   abbrev pub LeavesUpdated : (List Sector → State → Type 0) → List Request → D → Type 0
   LeavesUpdated Holds requests left = IsTrue (facts disk).honest → (s : State) → Holds (facts disk).now s
       → LeavesOnly (facts disk) (facts left) (λ m. Mixture (facts disk) m ⊎ (Holds m s ⊎ Holds m (updated s requests)))
@@ -72,13 +72,14 @@ module _ {D : Type 0} (facts : D → DiskFacts) (disk : D) where
   IsExchange old exchange new = IsTrue (facts disk).honest → (s : State) → registry.Stands (facts disk).now s
       → at.IsAt facts old s × RunsThrough facts old (new ∷ []) new s (exchange ∷ [])
 
-  -- `contents` is the bytes that an output holds, or none if the output's contract doesn't define them.
+  -- `contents` returns the bytes that an output has, or none if the output's contract doesn't
+  -- define them.
   module _ {O : Type 0} (contents : O → Option (List ℕ)) (io : Streams) (lines : List (List ℕ)) (answers : List Reply) (old : Opened D) (u : Drafted D) (status : Status) (left : D) where
-    -- The lines were followed by `commit`. The answers to the lines and to the commit were written, or
+    -- After the lines came `commit`. The answers to the lines and to the commit were written, or
     -- the output failed.
     pub record EndsInCommit : Type 0 where
       pub read : BeginsWith io.unread lines (ended commit_line)
-      -- before the commit, the output held the answers to all lines
+      -- before the commit, the output had the answers to all lines
       pub held : O
       pub sent : Appends io.before (contents held) (plan_texts answers)
       pub answer : Result (Unit {0}) Refusal
@@ -87,7 +88,7 @@ module _ {D : Type 0} (facts : D → DiskFacts) (disk : D) where
       pub any_moment : LeavesUpdated Stands (requests_of lines) left
       -- once the commit is acknowledged, the updated state is on the disk
       pub ok : IsTrue (facts disk).honest → (s : State) → Stands (facts disk).now s → OnOk answer (IsAt facts new (updated s (requests_of lines)))
-      -- if the disk holds a registry, each file is still a library in the state that is left
+      -- if the disk held a registry, each file is still a library in the state that a stop leaves
       pub registry_moment : LeavesUpdated registry.Stands (requests_of lines) left
       pub registry_ok : IsTrue (facts disk).honest → (s : State) → registry.Stands (facts disk).now s → OnOk answer (at.IsAt facts new (updated s (requests_of lines)))
       -- the update was one exchange of a run
@@ -96,7 +97,7 @@ module _ {D : Type 0} (facts : D → DiskFacts) (disk : D) where
       pub back : left ≡ new.disk
 
   module _ (io : Streams) (lines : List (List ℕ)) (answers : List Reply) (old : Opened D) (u : Drafted D) (status : Status) (left : D) where
-    -- The lines were followed by a reason to refuse the update. This reason was written after the
+    -- After the lines came a reason to refuse the update. This reason was written after the
     -- answers, or the output failed.
     pub record EndsRefused : Type 0 where
       pub refusal : UpdateRefusal
@@ -107,7 +108,7 @@ module _ {D : Type 0} (facts : D → DiskFacts) (disk : D) where
       pub told : TellsOnly (update_status refusal) (plan_texts answers ++ update_refusal_text refusal) io status
       pub back : left ≡ last.store.disk
 
-    -- The lines were followed by a fault: a stream failed or memory was refused. At most one more line
+    -- After the lines came a fault: a stream failed or memory was refused. At most one more line
     -- was read, and that line wasn't answered.
     pub record EndsBroken : Type 0 where
       pub fault : ScriptFault
@@ -127,7 +128,7 @@ module _ {D : Type 0} (facts : D → DiskFacts) (disk : D) where
         × (EndsInCommit contents io lines answers begins.old u status left
         ⊎ (EndsRefused io lines answers begins.old u status left ⊎ EndsBroken io lines answers begins.old u status left))
 
-    -- either an update was run over the disk; or the disk was refused and returned, and standard error
+    -- an update was run over the disk; or the disk was refused and returned, and standard error
     -- reports why
     abbrev pub UpdateEnds : Streams → Status → D → Type 0
     UpdateEnds io status left =

@@ -13,7 +13,7 @@ abbrev pub update_status : UpdateRefusal → Status
 update_status (Refused refusal) = refusal_status refusal
 update_status refusal = status.Refused
 
--- the status of an update whose lines a fault ended
+-- the status of an update that a fault ended
 abbrev pub fault_status : ScriptFault → Status
 fault_status fault.OutOfMemory = status.NoMemory
 fault_status other = status.Failed

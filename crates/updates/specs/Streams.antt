@@ -16,7 +16,7 @@ outputs_of io = record { before = io.before; after = io.after; errors_before = i
 abbrev pub CannotWrite : Streams → Status → Type 0
 CannotWrite io status = outputs.CannotWrite (outputs_of io) status
 
--- Either exactly `text` was written to the output, nothing was written to standard error, and the status
+-- Exactly `text` was written to the output, nothing was written to standard error, and the status
 -- is `ends`; or the output failed.
 abbrev pub TellsOnly : Status → List ℕ → Streams → Status → Type 0
 TellsOnly ends text io status = outputs.TellsOnly ends text (outputs_of io) status
@@ -26,7 +26,7 @@ TellsOnly ends text io status = outputs.TellsOnly ends text (outputs_of io) stat
 abbrev pub SaysOnly : Status → List ℕ → Streams → Status → Type 0
 SaysOnly ends line io status = outputs.SaysOnly ends line (outputs_of io) status
 
--- A fault ended the lines. Either exactly `text` was written to the output, standard error reports the
+-- A fault ended the lines. Exactly `text` was written to the output, standard error reports the
 -- fault, and the status is that of the fault; or the output failed.
 abbrev pub BreaksOff : ScriptFault → List ℕ → Streams → Status → Type 0
 BreaksOff Write text io status = CannotWrite io status

@@ -1,4 +1,4 @@
-// Appends the texts that answer the lines of an update to a buffered text.
+// Appends the answers to the lines of an update to a buffered text.
 
 ghost use Rattle.std.specs.Prelude.{◌≡◌, IfErr, IfOk, OnErr, OnOk, true};
 ghost use Rattle.text_output.specs.Sends.{Sends};
@@ -14,7 +14,7 @@ use std::io::Write;
 /// The reason why an update is refused.
 #[derive(Drop)]
 pub enum UpdateRefusal {
-    /// L1: a line asks for nothing.
+    /// L1: a line has none of the forms.
     BadLine,
     /// L2: the last line has no newline.
     CutLine,
@@ -44,7 +44,7 @@ pub(crate) fn put_plan<W: Write>(
     Ok(())
 }
 
-/// Appends to the buffered text the text that reports why an update is refused. Returns the status.
+/// Appends the text about a refused update to the buffered text. Returns the status.
 pub(crate) fn put_refusal<W: Write>(
     waiting: &mut Line,
     out: &mut W,

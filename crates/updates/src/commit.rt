@@ -7,15 +7,15 @@ use registry::{Registry, Update};
 use requests::Refusal;
 use sector_disk::Disk;
 
-/// A value that shows that a commit has succeeded. `report_commit` writes `ok` only if it is given
-/// such a value, and only `commit_draft` makes one. So `ok` is written after the commit.
+/// A value that proves that a commit has succeeded. Only `commit_draft` makes this value, and
+/// `report_commit` needs it to write `ok`. Therefore `ok` is written only after the commit.
 #[derive(Drop)]
 pub(crate) struct Committed {
     // Private to this module, so that no other function can make a `Committed`.
     made: (),
 }
 
-/// Commits the draft of an update. The function isn't passed an output stream, so no answer can be
+/// Commits the draft of an update. The function doesn't get an output stream, so no answer can be
 /// written before the commit has ended.
 pub(crate) fn commit_draft<D: Disk>(update: Update<D>) -> (Result<Committed, Refusal>, Registry<D>)
     ensures { Commits D.facts update (commit_result result.0) result.1 }

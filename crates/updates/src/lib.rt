@@ -1,5 +1,5 @@
 //! Updates of a registry on a disk: one commit makes all the changes that the lines of the input
-//! ask for.
+//! request.
 //!
 //! `run_update` opens the registry, reads lines up to `commit`, answers each line, and commits the
 //! changes that the lines planned. The first refusal ends the update, and leaves the disk's

@@ -1,4 +1,4 @@
-// Reads and answers the lines of an update, until something ends them.
+// Reads and answers the lines of an update, until a line or a fault ends them.
 
 ghost use Rattle.std.specs.Prelude.{◌≡◌, ◌⊎◌, IfErr, IfOk, MatchResult, bytes_eq, false};
 ghost use Rattle.std.specs.Io.Buffered.{reader_remaining};
@@ -27,14 +27,14 @@ pub(crate) enum Ending {
     Refused(UpdateRefusal),
 }
 
-/// Returns whether a line asks for the commit.
+/// Returns whether a line is `commit`.
 fn asks_commit(line: &[u8]) -> bool
     ensures { result ≡ bytes_eq line.now commit_line }
 {
     line == b"commit".as_slice()
 }
 
-/// Returns `reply`. If it is a refusal, returns this refusal as an error.
+/// Returns `reply`, or, if it is a refusal, this refusal as an error.
 fn accepted(reply: Reply) -> Result<Reply, Refusal>
     ensures { MatchResult result (λ answer. (answer ≡ reply) × (is_refusal answer ≡ false))
         (λ why. reply ≡ Reply.Refused why) }
@@ -45,8 +45,8 @@ fn accepted(reply: Reply) -> Result<Reply, Refusal>
     }
 }
 
-/// Applies the command of a line to the draft and writes the answer, or returns how the line ends
-/// the update. Doesn't write a refusal: the caller, which ends the update, writes it.
+/// Applies the command of a line to the draft and writes the answer, or returns the reason why the
+/// line ends the update. Doesn't write a refusal: the caller, which ends the update, writes it.
 fn answer_asked<D: Disk, O: Write>(
     asked: &AskedCommand<'_>,
     update: &mut Update<D>,
@@ -69,7 +69,7 @@ fn answer_asked<D: Disk, O: Write>(
     }
 }
 
-/// Answers a whole line, or returns how the line ends the update.
+/// Answers a whole line, or returns the reason why the line ends the update.
 fn answer_line<D: Disk, O: Write>(
     alloc: Global,
     line: &[u8],
@@ -98,8 +98,8 @@ fn answer_line<D: Disk, O: Write>(
     }
 }
 
-/// Reads lines and answers each line, until something ends them. Some answers may still be in the
-/// buffer when the function returns.
+/// Reads lines and answers each line, until a line or a fault ends them. Some answers may still be
+/// in the buffer when the function returns.
 fn read_lines<D: Disk, I: Read, O: Write>(
     alloc: Global,
     update: &mut Update<D>,
@@ -131,9 +131,9 @@ fn read_lines<D: Disk, I: Read, O: Write>(
     Err(ScriptFault::Read)
 }
 
-/// Reads lines and answers each line, until something ends them, and reads no line after that. All
-/// answers have been written when the function returns, unless the output failed. The function
-/// can't commit, because the caller keeps the update.
+/// Reads lines and answers each line, until a line or a fault ends them, and reads no line after
+/// that. All answers have been written when the function returns, unless the output failed. The
+/// function can't commit, because the caller keeps the update.
 pub(crate) fn answer_lines<D: Disk, I: Read, O: Write>(
     alloc: Global,
     update: &mut Update<D>,

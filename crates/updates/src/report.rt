@@ -1,4 +1,4 @@
-// Reports how an update ended, after its draft was committed or given up.
+// Reports the end of an update, after its draft was committed or given up.
 
 ghost use Rattle.requests.specs.Step.{answer_of};
 ghost use Rattle.program_parts.specs.Reply.{reply_text};
@@ -15,8 +15,8 @@ use requests::{Refusal, Reply};
 use std::io::Write;
 use tool_parts::cannot_write;
 
-/// Writes why an update is refused, and returns its status. If the output fails, reports that on
-/// standard error.
+/// Writes the reason why an update is refused, and returns its status. If the output fails, reports
+/// this on standard error.
 pub(crate) fn report_refusal<O: Write, E: Write>(
     refusal: UpdateRefusal,
     output: &mut O,
@@ -39,8 +39,9 @@ pub(crate) fn report_refusal<O: Write, E: Write>(
     }
 }
 
-/// Writes the answer to a commit: `ok`, which no other function of an update writes, or why the
-/// commit was refused. The function has no disk, update or registry, so it can't commit anything.
+/// Writes the answer to a commit: `ok`, which no other function of an update writes, or the reason
+/// why the commit was refused. The function gets no disk, update or registry, so it can't commit
+/// anything.
 pub(crate) fn report_commit<O: Write, E: Write>(
     answer: Result<Committed, Refusal>,
     output: &mut O,

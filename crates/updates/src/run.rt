@@ -16,11 +16,11 @@ use std::alloc::Global;
 use std::io::{BufReader, Read, Write};
 use tool_parts::say_refusal;
 
-/// The number of bytes that are read from the input at once.
+/// The maximum number of bytes that one read of the input requests.
 const PAGE: usize = 0x10000;
 
 /// Begins an update of a registry, answers its lines, and commits it or gives it up. Only this
-/// function has both the output and the update, and it writes nothing itself. `answer_lines` writes
+/// function has both the output and the update, and it writes nothing itself: `answer_lines` writes
 /// and can't commit, `commit_draft` commits and has no output, and `report_commit` writes `ok` and
 /// has no disk.
 fn run_opened<D: Disk, I: Read, O: Write, E: Write>(
@@ -59,14 +59,14 @@ fn run_opened<D: Disk, I: Read, O: Write, E: Write>(
 }
 
 /// Runs an update of the registry on `disk`. Opens the registry without testing its libraries, so
-/// that a library that is damaged or can't be read can be replaced or removed. Each line up to
-/// `commit` is answered: a change by `planned`, a listing by its text, and a bind by `bound`.
-/// `commit` makes all changes at once and is answered by `ok`; nothing after it is read. The first
-/// refusal is written, ends the update, and leaves the disk's contents unchanged. A line that asks
-/// for nothing, a line without a newline and the end of the input are refused too. Until `commit`
-/// writes its root, a stop leaves the state that the disk held.
+/// that the update can replace or remove a library that is damaged or can't be read. Answers each
+/// line up to `commit`: a change with `planned`, a listing with its text, and a bind with `bound`.
+/// `commit` makes all changes at once, and is answered with `ok`; nothing after it is read. The
+/// first refusal is written, ends the update, and leaves the disk's contents unchanged. A line that
+/// has none of the forms, a line without a newline and the end of the input are refused too. Until
+/// the commit writes its root, a stop leaves the state that the disk held.
 ///
-/// If the disk is refused, memory for a line is refused, or a stream fails, reports that on
+/// If the disk is refused, memory for a line is refused, or a stream fails, reports this on
 /// `errors`. If the output fails before the commit, nothing is changed. Returns the status and the
 /// disk.
 pub fn run_update<D: Disk, I: Read, O: Write, E: Write>(

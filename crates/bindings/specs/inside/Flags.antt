@@ -1,4 +1,5 @@
--- Flags for the symbols that relocations name. A reader doesn't have to believe these definitions.
+-- Flags for the symbols to which relocations refer. To understand the contracts of public calls,
+-- you don't need these definitions.
 use Rattle.std.specs.Prelude.{ℕ, ◌≡◌, ◌<◌, List, [], length, get_or, Bool, false}
 use Rattle.std.specs.List.{list_any}
 use Rattle.elf_dynamic.specs.Relocation.{relocations}
@@ -8,7 +9,8 @@ use Rattle.image.specs.Placement.{Placed}
 use Rattle.image.specs.Relocating.{file_at}
 use Rattle.bindings.specs.Named.{names_symbol}
 
--- there are `count` flags, and the flag of a symbol is true if and only if one of the relocations names the symbol
+-- there are `count` flags, and the flag of a symbol is true if and only if one of the relocations
+-- refers to the symbol
 pub record AreFlags (count : ℕ) (rs : List Relocation) (flags : List Bool) : Type 0 where
   pub counted : length flags ≡ count
   pub are : (i : ℕ) → i < count → get_or flags i false ≡ list_any (names_symbol i) rs

@@ -1,4 +1,5 @@
--- The names of libraries, as keys of a table. A reader doesn't have to believe this definition.
+-- The names of libraries, as keys of a table. To understand the contracts of public calls, you
+-- don't need this definition.
 use Rattle.std.specs.Prelude.{ℕ, ◌≡◌, List}
 use Rattle.std.specs.List.{list_any}
 use Rattle.std.specs.Str.{bytes_eq}

@@ -1,4 +1,4 @@
--- What is true of a disk over given bytes at any moment.
+-- Laws about a disk over given bytes, which hold at any moment.
 use Rattle.std.proofs.Common.{[], sym, subst, arith}
 use Rattle.std.proofs.lemmas.List.Elements.{All-get_or}
 use Rattle.std.specs.Prelude.{take}

@@ -1,4 +1,4 @@
--- Consequences of the definitions: the contents that a plan leaves, and the moments at which its steps are made.
+-- Laws about the contents that a plan leaves, and about the moments at which its steps are made.
 use Rattle.std.proofs.Common.{◌≡◌, ℕ, zero, suc, ◌+◌, ◌-◌, ◌<◌, List, [], ◌∷◌}
 use Rattle.std.proofs.Common.{length, set, take, refl, sym, ◌∙◌, ap, subst, arith}
 use Rattle.std.proofs.lemmas.Bool.{lt-ltb}
@@ -29,7 +29,7 @@ carried_out_whole n start (Write at content ∷ steps) whole writes =
     (All-tail (IsWriteOn n) (at, content) (writes_in steps) writes)
 carried_out_whole n start (Sync ∷ steps) whole writes = carried_out_whole n start steps whole writes
 
--- what is true of all writes of a plan is true of the writes in its first steps
+-- a property of all writes of a plan is a property of the writes in its first steps
 pub writes_taken : (P : SectorWrite → Type 0) (i : ℕ) (steps : List Step) → All P (writes_in steps) → All P (writes_in (take i steps))
 writes_taken P zero steps all = All-nil P
 writes_taken P (suc i) [] all = All-nil P
@@ -56,7 +56,7 @@ now_left start steps k = (
   ap (λ front. sector (carried_out start front) k) (sym (take_all (length steps) steps (omega arith))),
 )
 
--- once all calls are made, all steps are made
+-- when all calls have been made, all steps have been made
 pub steps_at_end : (planned : List PlannedStep) (n : ℕ) → steps_at planned (calls_for planned + n) ≡ length planned
 steps_at_end [] n = refl
 steps_at_end (p ∷ planned) n =

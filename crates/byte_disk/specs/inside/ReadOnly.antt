@@ -1,4 +1,4 @@
--- What is true of a disk that can't be changed, at any moment.
+-- Laws about a disk that can't be changed, which hold at any moment.
 use Rattle.std.proofs.Common.{[], refl, subst, sym}
 use Rattle.std.proofs.lemmas.List.Elements.{All-get_or}
 use Rattle.sector_disk.specs.Disk.{IsWhole, HoldsNow, HasWholeSectors}

@@ -8,8 +8,8 @@ use Rattle.store.specs.Opened.{Opened, IsAt}
 use Rattle.store.specs.Stands.{Stands}
 use Rattle.byte_registry.specs.Asked.{IsDiskOf}
 
--- A registry was opened on a disk with these bytes. Nothing was written, and the registry is at the one
--- state that the bytes hold.
+-- A registry was opened on a disk with these bytes. Nothing was written, and the registry is at the
+-- only state that the bytes hold.
 pub record IsOpenedOn (bytes : List ℕ) (opened : Opened ByteDisk) : Type 0 where
   -- the disk before any call
   pub disk : ByteDisk

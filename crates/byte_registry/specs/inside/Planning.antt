@@ -1,4 +1,4 @@
--- The effect of an update on its draft, and of its commit on the registry, for a disk that is given
+-- The effect of an update on its draft, and of its commit on the registry, for a disk over given
 -- bytes (own).
 use Rattle.std.specs.Prelude.{◌≡◌, ◌⊎◌, ◌<◌, ℕ, List, Result, Ok, Err, IfErr, OnOk}
 use Rattle.sector_disk.specs.Disk.{LeavesOnly}

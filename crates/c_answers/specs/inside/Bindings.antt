@@ -13,7 +13,7 @@ use Rattle.scope.specs.LoadOrder.{available, names_of}
 use Rattle.scope.specs.Objects.{Named}
 use Rattle.c_answers.specs.Bindings.{bound_number}
 
--- The objects have room, and the text states what their symbols are bound to.
+-- The objects have room, and the text is about the bindings of their symbols.
 pub record IsPlacedText (objects : List Placed) (number : ℕ) (said : List ℕ) : Type 0 where
   pub room : lacks_room objects ≡ false
   pub text : said ≡ bindings_text objects
@@ -27,12 +27,12 @@ IsUnplaced objects why = ((why ≡ Bind NoRoom) × (lacks_room objects ≡ true)
 abbrev pub found_objects : List ℕ → Found → List Named
 found_objects program found = available program (map object_of found.libraries)
 
--- the text about which libraries were found for a program and which are missing
+-- the text about the libraries that were found for a program, and about the missing ones
 abbrev pub found_text : List ℕ → Found → List ℕ
 found_text program found = dependencies_text (names_of (map object_of found.libraries)) (found_objects program found)
 
--- either no name is missing, and the text is about the placed objects; or a name is missing, and the
--- text is about the found and missing libraries
+-- no name is missing, and the text is about the placed objects; or a name is missing, and the text
+-- is about the found and the missing libraries
 abbrev pub IsFoundText : List ℕ → ℕ → Found → ℕ → List ℕ → Type 0
 IsFoundText program base found number said =
     ((found.missing ≡ None) × IsPlacedText (place base (found_objects program found)) number said)

@@ -1,4 +1,5 @@
-/* A library that the others need: data, an array into which addresses go, functions weak and strong. */
+/* A library that the others need: data, an array into which addresses are written, and weak and
+ * strong functions. */
 int amount = 7;
 int numbers[4] = {1, 2, 3, 4};
 int *third = &numbers[2];

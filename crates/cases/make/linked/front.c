@@ -1,4 +1,4 @@
-/* A library that is preloaded: a function and a datum of others. */
+/* A preload: it has a function and a datum that other libraries have too. */
 int top(int);
 int amount = 9;
 int twice(int n) { return n << 1; }

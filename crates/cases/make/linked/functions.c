@@ -1,4 +1,4 @@
-/* A library whose functions are bound within it (-Bsymbolic-functions), and whose data aren't. */
+/* A library whose functions are bound within it (-Bsymbolic-functions), unlike its data. */
 int twice(int n) { return n * 2; }
 int amount = 8;
 int *own_amount = &amount;

@@ -1,4 +1,5 @@
-/* A library that needs base: a strong definition of what base has as weak, protected symbols, weak references. */
+/* A library that needs base. It has a strong definition of a name that base defines as weak,
+ * protected symbols, and weak references. */
 extern int amount, numbers[4];
 int twice(int);
 extern int absent(void) __attribute__((weak));

@@ -1,4 +1,4 @@
-/* A library that needs middle and base, and defines what both have. */
+/* A library that needs middle and base, and defines names that both have. */
 int middle(int), twice(int), guarded(int), in_base(void), report(int);
 extern int amount, doubled;
 __attribute__((visibility("protected"))) int guarded_datum = 6;

@@ -1,4 +1,5 @@
-/* The library of which `real.py` makes objects with several linkers: symbols of every kind that a linker writes. */
+/* The library from which `real.py` makes objects with several linkers. It has symbols of every kind
+ * that a linker writes. */
 extern int other(int);
 extern int perhaps(int) __attribute__((weak));
 extern int amount;

@@ -1,4 +1,5 @@
-/* A library of what base has too, and of more, with words of all of it; it is linked in several ways. */
+/* A library that defines the names of base and others, with words of all of them. It is linked in
+ * several ways. */
 int in_base(void), report(int);
 extern int numbers[4], fixed_datum;
 extern int absent(void) __attribute__((weak));

@@ -1,4 +1,5 @@
-/* The program: it defines what a library calls and some have too, and asks for what all of them have. */
+/* The program: it defines names that a library calls, some of which libraries define too, and it
+ * names functions that all of them have. */
 int twice(int), shared(void), guarded(int), work(int);
 extern int amount, doubled;
 int report(int n) { return n; }

@@ -6,7 +6,7 @@ use Rattle.requests.specs.Request.{Request, bind, list}
 use Rattle.commands.specs.Words.{CommandLine}
 use Rattle.commands.specs.Words as words
 
--- the path of a command's disk; every command except `image` has one
+-- the path of a command's disk, or none for `image`, which has no disk
 abbrev pub disk_of : CommandLine → Option (List ℕ)
 disk_of (words.image program base) = None
 disk_of (words.format disk sectors) = Some disk

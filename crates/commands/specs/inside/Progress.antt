@@ -13,7 +13,7 @@ use Rattle.commands.specs.Script.{Counts}
 use Rattle.commands.specs.declared.answer.Answer.{Answer}
 use Rattle.commands.specs.declared.summary.Summary.{Summary}
 
--- the streams at some point of a script: the bytes left to read, and the bytes that the writer holds
+-- the streams at a point of a script: the bytes left to read, and the bytes that the writer has
 pub record Place : Type 0 where
   pub unread : Option (List ℕ)
   pub written : Option (List ℕ)
@@ -31,14 +31,15 @@ module _ {S : Type 0} (step : S → Happening → EventReply → S → Type 0) w
   abbrev pub Stepped : S → List ℕ → S → Type 0
   Stepped s line s' = (answer : Answer) × LineStep step s line answer s'
 
-  -- How a whole line can fail. `waits` is the text that the writer holds before the line, followed by
-  -- the answers that aren't sent yet; `now` is the same text after the line. If memory is refused,
-  -- nothing was done. If the writer failed, the line was applied first.
+  -- The failures of a whole line. `waits` is the text that the writer has before the line, followed
+  -- by the answers that haven't been sent yet; `now` is the same text after the line. If memory is
+  -- refused, the line changed nothing. If the writer failed, the line was applied before.
   abbrev pub Misses : S → S → Option (List ℕ) → Option (List ℕ) → List ℕ → ScriptFault → Type 0
   Misses s s' waits now line Write = Stepped s line s'
   Misses s s' waits now line fault = (s' ≡ s) × (now ≡ waits)
 
--- The writer holds exactly the answers to the first lines. Each of the other answers may be sent later.
+-- The writer has exactly the answers to the first lines. Each of the other answers may be sent
+-- later.
 pub record Told (before held : Option (List ℕ)) (whole : List (List ℕ)) (answers : List Answer) : Type 0 where
   pub told : List (List ℕ)
   pub untold : List (List ℕ)

@@ -1,4 +1,4 @@
--- The steps of a registry with binders, for which the greatest status of the replies is kept.
+-- The steps of a registry with binders, with the greatest status of the replies.
 use Rattle.std.specs.Prelude.{◌≡◌}
 use Rattle.binders.specs.Events.{Happening}
 use Rattle.binders.specs.declared.event.EventReply.{EventReply}

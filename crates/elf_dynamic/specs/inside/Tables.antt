@@ -1,4 +1,4 @@
--- The tables of a file, in the form in which the code keeps these tables.
+-- The tables of a file, as the code stores them.
 use Rattle.std.specs.Prelude.{ℕ, ◌+◌, ◌*◌, ◌≡◌, List, length}
 use Rattle.std.specs.Prelude.{Option, Some, None, if◌then◌else◌}
 use Rattle.elf_file.specs.Constant.{DT_SONAME, DT_STRSZ, SYMBOL_SIZE}

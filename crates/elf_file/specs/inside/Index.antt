@@ -19,7 +19,8 @@ pub record InBlock (index : LoadIndex) (j : ℕ) : Type 0 where
   pub from : slice_index index.first block ≤ j
   pub to : j < slice_index index.first block + BLOCK
 
--- the index of the first `n` program headers: its blocks begin with a PT_LOAD, contain all PT_LOADs, and don't overlap
+-- `index` is the index of the first `n` program headers: its blocks begin with a PT_LOAD, contain
+-- all PT_LOADs, and don't overlap
 pub record Indexes (file : List ℕ) (n : ℕ) (index : LoadIndex) : Type 0 where
   pub first_size : length index.first ≡ BLOCKS
   pub fits : index.blocks ≤ BLOCKS
@@ -45,7 +46,7 @@ pub record IsIndexed (file : List ℕ) (index : LoadIndex) : Type 0 where
 unfoldable pub loads_from : List ℕ → ℕ → List ProgramHeader
 loads_from file k = filter is_load (map (program_header file) (range_with_len k (header_count file - k)))
 
--- the last block spans program header number `i`, which isn't before the block
+-- the last block spans program header number `i`; only for a header that isn't before this block
 abbrev pub is_spanned : LoadIndex → ℕ → Bool
 is_spanned index i = nat_lt 0 index.blocks && nat_lt i (slice_index index.first (index.blocks - 1) + BLOCK)
 
@@ -59,7 +60,8 @@ abbrev pub AllBelow : List ℕ → ℕ → ℕ → Type 0
 AllBelow file address k = (j : ℕ) → j < k → is_load (program_header file j) ≡ true
     → (program_header file j).address + (program_header file j).memory_size ≤ address
 
--- only PT_LOADs of the block that begins at program header number `k` can contain the address
+-- only the block that begins at program header number `k` can have a PT_LOAD that contains the
+-- address
 abbrev pub IsBlockAt : List ℕ → ℕ → ℕ → Type 0
 IsBlockAt file address k = (k < header_count file) × AllBelow file address k × AllAbove file address (k + BLOCK)
 

@@ -1,4 +1,4 @@
--- The values that the code stores for the tags of the dynamic section.
+-- The counts and values that the code stores for the tags of the dynamic section.
 use Rattle.std.specs.Prelude.{ℕ, ◌+◌, ◌/◌, ◌≤◌, ◌≡◌, map, length, List, Option, Some}
 use Rattle.std.specs.Prelude.{None, ◌==◌, count_by, slice_index_or, unwrap_or, if◌then◌else◌}
 use Rattle.std.specs.Option.{option_map}
@@ -10,7 +10,7 @@ use Rattle.elf_file.specs.declared.entry.Entry.{Entry}
 use Rattle.elf_file.specs.declared.tag_table.Slot.{Slot}
 use Rattle.elf_file.specs.declared.tag_table.Tags.{Tags}
 
--- the place in the table of the tag with this number, if the tag has one
+-- the place, in the table, of the tag with this number, if the tag has a place
 abbrev pub place_of : ℕ → Option ℕ
 place_of number =
     if number == DT_NEEDED then Some 0 else
@@ -35,19 +35,20 @@ place_of number =
     if number == DT_VERNEED then Some 19 else
     None
 
--- a tag's slot: how often the tag is present in the entries, and the value of the first entry with it, or 0
+-- a tag's slot: the number of entries with the tag, and the value of the first of them, or 0 if
+-- there is none
 abbrev pub slot_of : List Entry → ℕ → Slot
 slot_of es tag = record { count = count_by (has_tag tag) es; value = unwrap_or (option_map (λ e. e.value) (find (has_tag tag) es)) 0 }
 
--- the slot of a tag after one more entry with this tag, whose value is `value`
+-- `slot` with one more entry counted, whose value is `value`
 abbrev pub slot_more : ℕ → Slot → Slot
 slot_more value slot = record { count = slot.count + 1; value = if slot.count == 0 then value else slot.value }
 
--- the slot of a tag after one more entry
+-- the slot of `tag` after one more entry of the section
 abbrev pub slot_and : ℕ → Entry → Slot → Slot
 slot_and tag e slot = if has_tag tag e then slot_more e.value slot else slot
 
--- the table has the right slot for each tag that has a place in it
+-- for each tag that has a place in the table, the table has the right slot
 abbrev pub IsTable : List Entry → List Slot → Type 0
 IsTable es slots = (n k : ℕ) (d : Slot) → place_of n ≡ Some k → slice_index_or slots k d ≡ slot_of es n
 

@@ -1,4 +1,4 @@
--- The facts about an image that passes the tests for self-relocation and for functions that nobody would call.
+-- The properties of an image that the tests for self-relocation and for uncalled functions accept.
 use Rattle.std.specs.Prelude.{◌≡◌, false, None}
 use Rattle.image.specs.Image.{MemoryImage}
 use Rattle.executable.specs.StaticPie.{is_static_pie}

@@ -1,4 +1,4 @@
--- How pieces are made from segments, one after the other, and how they are joined.
+-- The steps in which pieces are made from segments and joined.
 use Rattle.std.specs.Prelude.{ℕ, ◌≤◌, ◌≡◌, List, [], ◌∷◌, length, Option, Some, None}
 use Rattle.image.specs.Constant.{MEMORY_LIMIT}
 use Rattle.image.specs.Image.{ImageSegment}
@@ -14,8 +14,8 @@ pieces_after (Some p) segments = pieces_from p segments
 abbrev pub IsFull : Loaded → Type 0
 IsFull p = length p.contents ≡ p.heading.size
 
--- all bytes of the piece are in its contents, and it ends at or below the address; true if there is no
--- piece
+-- all bytes of the piece are in its contents, and the piece ends at or below the address; true if
+-- there is no piece
 abbrev pub IsReady : Option Loaded → ℕ → Type 0
 IsReady None address = Unit {0}
 IsReady (Some p) address = IsFull p × (end_of p ≤ address)

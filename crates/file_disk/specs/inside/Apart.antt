@@ -1,4 +1,4 @@
--- The condition that keeps the two buffers of a disk over a file apart.
+-- The condition that no sector is in both buffers of a disk over a file.
 use Rattle.std.specs.Prelude.{◌≡◌, ℕ, None, IsSome}
 use Rattle.file_disk.specs.declared.read_ahead.ReadAhead.{ReadAhead}
 use Rattle.file_disk.specs.declared.write_buffer.WriteBuffer.{WriteBuffer}

@@ -20,7 +20,7 @@ module _ {F : Type 0} {g : Ghosts F} where
     pub within : StaysWithin (Leaves old) (g.facts old.file) (g.facts new.file)
     pub failures : (g.facts old.file).failures < (g.facts new.file).failures
 
-  -- a call of the file failed, or a write or a sync had failed before
+  -- a call of the file failed, or an earlier write or sync failed
   pub record IsRefused (old new : Buffered F g) : Type 0 where
     pub within : StaysWithin (Leaves old) (g.facts old.file) (g.facts new.file)
     pub cause : (old.failed ≡ true) ⊎ ((g.facts old.file).failures < (g.facts new.file).failures)
@@ -30,7 +30,7 @@ module _ {F : Type 0} {g : Ghosts F} where
     pub within : StaysWithin (Leaves old) (g.facts old.file) (g.facts new.file)
     pub shown : (k : ℕ) → sector (g.facts new.file).now k ≡ shown_at old k
 
-  -- reads return the same contents as before, and nothing was added to the write buffer
+  -- reads return the same contents as before, and the write buffer has no new sectors
   pub record IsRoomy (old new : Buffered F g) : Type 0 where
     pub within : StaysWithin (Leaves old) (g.facts old.file) (g.facts new.file)
     pub shown : (k : ℕ) → shown_at new k ≡ shown_at old k

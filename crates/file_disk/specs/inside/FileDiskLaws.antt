@@ -32,7 +32,8 @@ waits_whole write_buffer k c is = some_holds (nat_le write_buffer.start k && nat
     is
 
 module _ {F : Type 0} {g : Ghosts F} where
-  -- reads of a sector that the disk has return its content at the last moment without a failure
+  -- reads of a sector of the disk return its content at the last moment at which no write or sync
+  -- had failed
   pub read_of : (disk : FileDisk F g) (k : ℕ) → k < disk.buffered.sectors → sector (file_facts disk).now k ≡ shown_of disk.latest.items k
   read_of disk k lt = get_or-map-range_with_len (shown_of disk.latest.items) 0 disk.buffered.sectors k k [] lt (omega arith)
 

@@ -1,5 +1,5 @@
--- Names that are tails of strings, read from their ends. If names share bytes, the code numbers the names in this way.
--- A reader doesn't have to believe these definitions.
+-- Names that are tails of strings, read from their ends. The code numbers names in this way if they
+-- share bytes. To understand the contracts of public calls, you don't need these definitions.
 use Rattle.std.specs.Prelude.{ℕ, List, ◌≡◌, ◌≢◌, ◌<◌, ◌≤◌, ◌-◌, false, length, take, reverse, slice_index}
 use Rattle.std.specs.Cmp.Lexicographic.{slice_cmp}
 use Rattle.std.specs.Ordering.{nat_cmp, is_lt}
@@ -41,9 +41,9 @@ pub record AreSorted (names : List (List ℕ)) (endings : List Ending) : Type 0 
 abbrev pub AreNone : List ℕ → Type 0
 AreNone numbers = (k : ℕ) → slice_index numbers k ≡ 0
 
--- Some names have been numbered; the others have the number 0. Compared from the last byte backwards, no numbered name
--- is greater than `last`. For each numbered name that is a tail of `last`, `marks` has the number at the index that is
--- the name's length.
+-- The names with a number other than 0 have been numbered. Compared from the last byte backwards,
+-- no numbered name is greater than `last`. For each numbered name that is a tail of `last`, `marks`
+-- has the number at the index that is the name's length.
 pub record AreHeld (names : List (List ℕ)) (last marks numbers : List ℕ) : Type 0 where
   pub size : length numbers ≡ length names
   pub short : (n : ℕ) → slice_index marks n ≢ 0 → n ≤ length last

@@ -27,10 +27,10 @@ pub record AreLanes (file : List ℕ) (l : Lanes) : Type 0 where
 pub record AreOrdered (places ends : List ℕ) : Type 0 where
   pub order : (k : ℕ) → k < 8 → slice_index places k ≤ slice_index ends k
 
--- symbol `i` is met on the walk from the bucket of its name's hash
+-- symbol `i` is on the walk from the bucket of its name's hash
 abbrev pub IsMet : List ℕ → ℕ → Type 0
 IsMet file i = Meets (chains file) (bucket_of (buckets file) (elf_hash (name_of file i))) i
 
--- the symbol of each lane is met on the walk from the bucket of its name's hash
+-- the symbol of each lane is on the walk from the bucket of its name's hash
 pub record AllMet (file symbols : List ℕ) : Type 0 where
   pub met : (k : ℕ) → k < 8 → slice_index symbols k ≢ 0 → IsMet file (slice_index symbols k)

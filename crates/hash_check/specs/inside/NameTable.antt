@@ -1,5 +1,5 @@
--- A table in which a name is found by its key. A cell has the number of a name, counted from 1, or 0 if
--- it is empty. A reader doesn't have to believe these definitions.
+-- A table in which a name is found by its key. A cell has the number of a name, counted from 1, or
+-- 0 if it is empty. To understand the contracts of public calls, you don't need these definitions.
 use Rattle.std.specs.Prelude.{ℕ, List, ◌≡◌, ◌≢◌, ◌<◌, ◌≤◌, ◌+◌, ◌-◌, ◌*◌, ◌/◌, ◌%◌, ◌^◌, length, slice_index}
 use Rattle.hash_check.specs.inside.Key.{key_of}
 use Rattle.hash_check.specs.Numbers.{nth_text}
@@ -37,7 +37,7 @@ pub record Reaches (text : ℕ → List ℕ) (cells name : List ℕ) (from at : 
 abbrev pub home_of : List (List ℕ) → List ℕ → ℕ → ℕ
 home_of names cells k = home (length cells) (key_of (nth_text names k))
 
--- the search for name number `k` ends at a cell that has the number `told`
+-- the search for name number `k` ends at a cell with the number `told`
 pub record Stands (names : List (List ℕ)) (cells : List ℕ) (k told : ℕ) : Type 0 where
   pub place : ℕ
   pub is : Reaches (nth_text names) cells (nth_text names k) (home_of names cells k) place

@@ -17,7 +17,7 @@ pub record IsSymbol (file : List ℕ) (i : ℕ) : Type 0 where
 unfoldable pub all_symbols : List ℕ → List ℕ
 all_symbols file = range_with_len 1 (length (symbols file) - 1)
 
--- the offset of a symbol's name in the string table
+-- the offset of the name of symbol number `i` in the string table, or 0 if there is no such symbol
 abbrev pub offset_of : List ℕ → ℕ → ℕ
 offset_of file i = option_map_or (λ s. s.name) (slice_get (symbols file) i) 0
 

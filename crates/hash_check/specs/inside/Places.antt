@@ -20,7 +20,7 @@ pub record Known (places : List (Option Place)) (i : ℕ) : Type 0 where
   pub place : Place
   pub is : place_at places i ≡ Some place
 
--- place `p` describes the walk from index `i` correctly
+-- `p` is a correct place of index `i`: it describes the walk from this index
 pub record Says (chains : List ℕ) (places : List (Option Place)) (i : ℕ) (p : Place) : Type 0 where
   pub depth : Depth chains i p.depth
   pub landing : p.landing ≤ p.depth
@@ -59,7 +59,7 @@ pub record Placed (buckets chains : List ℕ) (places : List (Option Place)) : T
   pub sound : Sound chains places
   pub known : All (Known places) buckets
 
--- the joint is 0, or the walks from all buckets meet it
+-- `joint` is 0, or the walks from all buckets meet the index `joint`
 pub record IsJoint (buckets chains : List ℕ) (places : List (Option Place)) (joint : ℕ) : Type 0 where
   pub within : joint < length chains
   pub known : Known places joint

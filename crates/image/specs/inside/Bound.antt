@@ -1,4 +1,4 @@
--- The values of symbols while they are found, and images of the first objects.
+-- The values of symbols while the code finds them, and images of the first objects.
 use Rattle.std.specs.Prelude.{ℕ, ◌≡◌, Bool, List, length, map, take, slice_get, Some, true}
 use Rattle.std.specs.List.{flat_map, range_with_len}
 use Rattle.elf_dynamic.specs.Symbol.{symbols}
@@ -9,8 +9,8 @@ use Rattle.image.specs.Loading.{all_loaded}
 use Rattle.image.specs.Placement.{Placed}
 use Rattle.image.specs.Relocating.{file_at, writes_of}
 
--- `known` marks the symbols of object number `own` for which `values` has the value; both lists are by
--- symbol number
+-- `known` marks the symbols of object number `own` whose values are in `values`; both lists are in
+-- the order of the symbol numbers
 pub record AreValues (objects : List Placed) (own : ℕ) (values : List ℕ) (known : List Bool) : Type 0 where
   pub counted : length values ≡ length (symbols (file_at objects own))
   pub flags : length known ≡ length values

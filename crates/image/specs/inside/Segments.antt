@@ -1,5 +1,5 @@
--- Where segments lie, and how loading and relocating change their bytes. A reader doesn't have to believe these
--- definitions.
+-- The places of segments, and how loading and relocating change their bytes. To understand the
+-- contracts of public calls, you don't need these definitions.
 use Rattle.std.specs.Prelude.{ℕ, ◌≡◌, ◌+◌, ◌-◌, ◌^◌, ◌<◌, ◌≤◌, Bool, ◌&&◌, true, nat_le, if◌then◌else◌}
 use Rattle.std.specs.Prelude.{List, [], ◌∷◌, ◌++◌, length, map, take, drop, replicate, sum_by, Option, Some, None}
 use Rattle.std.specs.Int.{byte_at}
@@ -15,7 +15,7 @@ use Rattle.image.specs.Placement.{Placed, Stacked, placed_at}
 use Rattle.image.specs.Relocating.{Write}
 use Rattle.image.specs.declared.object.ImageObject.{ImageObject}
 
--- `size` bytes, which begin with `front` and continue with zeros
+-- `size` bytes: those of `front`, and then zeros
 abbrev pub padded : List ℕ → ℕ → List ℕ
 padded front size = front ++ replicate (size - length front) 0
 
@@ -47,11 +47,12 @@ abbrev pub patched_at : ImageSegment → ℕ → ℕ → ImageSegment
 patched_at s place value =
     record { address = s.address; permissions = s.permissions; bytes = with_value s.bytes (place - s.address) value }
 
--- the byte at an address after the eight bytes of a value were written at `place`
+-- the byte at an address after the eight bytes of a value were written at `place`; `old` is the
+-- byte before
 abbrev pub over : ℕ → ℕ → Option ℕ → ℕ → Option ℕ
 over place value old address = if within place 8 address then Some (byte_at (address - place) value) else old
 
--- the byte at an address after a relocation's write, if the relocation writes
+-- the byte at an address after a relocation's write, or the old byte if there is no write
 abbrev pub after : Option Write → Option ℕ → ℕ → Option ℕ
 after (Some w) old address = over w.place w.value old address
 after None old address = old
@@ -67,14 +68,14 @@ pub record IsWhole (objects : List ImageObject) (segments : List ImageSegment) :
   pub low : All (λ s. s.address + length s.bytes ≤ MEMORY_LIMIT) segments
   pub counted : sum_by (λ o. o.segment_count) objects ≡ length segments
 
--- each object of the order, at the base with the same position in `bases`
+-- the objects of the order, each at the base at the same position of `bases`
 abbrev pub with_bases : List Named → List ℕ → List Placed
 with_bases [] bases = []
 with_bases (o ∷ os) [] = []
 with_bases (o ∷ os) (b ∷ bs) = placed_at b o ∷ with_bases os bs
 
--- there is a base for each object of the order, and the objects at these bases lie one above the other
--- in memory
+-- there is a base for each object of the order, and at these bases each object lies above the
+-- object before it in memory
 pub record IsPlaced (order : List Named) (bases : List ℕ) : Type 0 where
   pub counted : length bases ≡ length order
   pub stacked : Stacked 0 (with_bases order bases)

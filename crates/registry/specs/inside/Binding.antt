@@ -23,8 +23,8 @@ abbrev pub found_of : Option Walk → Option Found
 found_of None = None
 found_of (Some walk) = Some (record { needs = walk.needs; files = walk.files.items })
 
--- Once the walk has begun, no test refuses the program by itself, and the walk is a walk among the files
--- of the snapshot.
+-- If the walk has begun, the tests of the program without its libraries accept it, and the walk
+-- goes through the files of the snapshot.
 abbrev pub IsReadyFor : Binding → Option Found → Type 0
 IsReadyFor binder None = Unit
 IsReadyFor binder (Some found) = (program_refusal binder.program binder.base ≡ None)
@@ -39,8 +39,8 @@ pub record Stays (old new : Binding) : Type 0 where
   pub base : new.base ≡ old.base
   pub snapshot : new.snapshot ≡ old.snapshot
 
--- `going` steps were made: none if the walk hasn't begun, otherwise one for the program and one for each
--- file that was read
+-- `going` steps were made: none if the walk hasn't begun, and otherwise one for the program and one
+-- for each file that was read
 abbrev pub HasCome : State → List ℕ → ℕ → Option Found → ℕ → Type 0
 HasCome s program base None going = going ≡ 0
 HasCome s program base (Some found) going = (program_refusal program base ≡ None)

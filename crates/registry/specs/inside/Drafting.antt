@@ -18,10 +18,11 @@ pub record IsPlanned {D : Type 0} (facts : D → DiskFacts) (old new : Drafted D
   pub beside : StaysBeside facts old new
   pub changed : Changed facts Device Reopen old.store new.store most Refuses result
   pub refused : OnErr result (IsSameDraft old new)
-  -- the draft counts as changed
+  -- a successful change marks the draft as changed
   pub planned : OnOk result (new.touched ≢ Nothing)
 
--- Files of the draft were read. Whatever the result is, the draft keeps its state and its entries.
+-- Files of the draft were read. The draft keeps its state and its entries, even if the read was
+-- refused.
 pub record ReadsBeside {D : Type 0} (facts : D → DiskFacts) (old new : Drafted D) : Type 0 where
   pub read : IsRead facts (listing old) (listing new)
   pub same : (s d : State) → IsDraftedAt facts old s d → IsDraftedAt facts new s d

@@ -5,7 +5,7 @@ use Rattle.store.specs.Stands.{name_of}
 use Rattle.states.specs.State.{State, names_of}
 use Rattle.requests.specs.Table.{Table}
 
--- the name of an entry
+-- the name of the entry
 abbrev pub placed_name : PlacedEntry → List ℕ
 placed_name placed = name_of placed.entry
 

@@ -1,4 +1,4 @@
--- How relisting ends: the files of a store of version 1 are admitted, and then the store gets
+-- The ends of relisting: the files of a store of version 1 are admitted, and then the store gets
 -- catalogues.
 use Rattle.std.specs.Prelude.{◌≡◌, ◌≢◌, ◌+◌, ◌<◌, ◌⊎◌, [], Result, All, IsTrue, IsFalse, IfOk, IfErr, length, sum_by}
 use Rattle.sector_disk.specs.Disk.{DiskFacts, Mixture, LeavesOnly, LogGrows, AreCalls, AreCallsExactly}
@@ -19,7 +19,7 @@ use Rattle.registry.specs.Stands.{Stands, StandsOld}
 abbrev pub IsAdmissionRefusal : StoreRefusal → Type 0
 IsAdmissionRefusal e = (e ≡ Device) ⊎ (e ≡ Damaged) ⊎ (e ≡ OutOfMemory)
 
--- the store now has catalogues, or it was refused and its disk handed back
+-- the store has catalogues now, or it was refused and its disk was returned
 pub record EndsRelisting {D : Type 0} (facts : D → DiskFacts) (store : Opened D) (relisting : Result (Opened D) (StoreRefusal × D)) : Type 0 where
   pub any_moment : (s : State) → IsOldAt facts store s → All IsLibrary s.libraries
       → LeavesOnly (facts store.disk) (facts (disk_after relisting)) (λ m. StandsOld m s ⊎ Stands m (upgraded s))
@@ -31,7 +31,7 @@ pub record EndsRelisting {D : Type 0} (facts : D → DiskFacts) (store : Opened 
   pub ok : (s : State) → IsOldAt facts store s → IfOk relisting (λ registry. All IsLibrary s.libraries × IsAt facts registry (upgraded s))
   pub answer : (s : State) → IsOldAt facts store s → All IsLibrary s.libraries → IsUpgradeAnswer (refusal_of_upgrade store.root.sectors s) (answer_of relisting)
   pub no_library : (s : State) → IsOldAt facts store s → (All IsLibrary s.libraries → ⊥) → IfErr relisting (λ e. IsAdmissionRefusal e.0)
-  -- the following holds on any disk, even on a disk that lies
+  -- the clauses from here on hold on any disk, honest or not
   pub usable : IfOk relisting (λ registry. IsFalse registry.failed)
   pub unheld : IfOk relisting (λ registry. registry.held ≡ [])
   pub placed : IfOk relisting (IsRelisted store)

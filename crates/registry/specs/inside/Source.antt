@@ -38,7 +38,7 @@ abbrev pub HasFiles : {D : Type 0} → (D → DiskFacts) → Source → Opened D
 HasFiles facts Current store s = IsAt facts store s
 HasFiles facts (Held snapshot) store s = IsTrue (facts store.disk).honest × AreHeldAs facts store snapshot.now.handles s.libraries
 
--- The entries, and the positions `listed` of the preloads, are those of state s. `Has` is the fact that
+-- The entries, and the positions `listed` of the preloads, are those of state s. `Has` states that
 -- the files that are found by name have these entries.
 pub record AreNamesOf (s : State) (entries : List PlacedEntry) (Has : Type 0) (listed : List ℕ) : Type 0 where
   pub has : Has

@@ -25,15 +25,16 @@ use Rattle.registry.specs.declared.needs.Needs.{Needs}
 use Rattle.registry.specs.declared.source.Source.{Source}
 use Rattle.registry.specs.inside.Source.{HasEntries, HasFiles}
 
--- The needs after the walk examined an object that needs the names `needed`. The places of the files
--- with these names are added. The first missing name is noted, unless a name was noted before.
+-- The needs after the walk has examined an object that needs the names `needed`. The places of the
+-- files with these names are added. The first missing name is stored, unless a missing name was
+-- stored before.
 abbrev pub more_needs : List (List ℕ) → Needs → List ℕ → List (List ℕ) → Needs
 more_needs names needs needer needed = record {
   places = record { limit = needs.places.limit; places = grown needs.places.places (filter_map (place_of names) needed) };
   missing = option_or needs.missing (find (is_missing names) (map (λ name. record { needer = needer; name = name }) needed));
 }
 
--- The needs only grow: the queue keeps its first places, and a missing name that was noted stays noted.
+-- The needs only grow: the queue keeps its first places, and a stored missing name stays stored.
 pub record Grows (old new : Needs) : Type 0 where
   pub limit : new.places.limit ≡ old.places.limit
   pub begins : take (length old.places.places) new.places.places ≡ old.places.places
@@ -58,9 +59,9 @@ next_place needs files = get_or needs.places.places (length files + 1) 0
 abbrev pub walked : List ℕ → ℕ → List ℕ
 walked places count = drop 1 (take (count + 1) places)
 
--- In state s, the program was examined, and then the files at the next places of the queue, each once.
--- The queue has the places of the files that the program and these files need, and the first needed name
--- that no file has is noted.
+-- In state s, the program was examined, and then the files at the next places of the queue, each
+-- once. The queue has the places of the files that the program and these files need, and the first
+-- needed name that no file has is stored.
 pub record IsWalked (program : List ℕ) (s : State) (needs : Needs) (files : List Library) : Type 0 where
   pub among : IsAmong (length s.libraries) needs files
   pub missing : needs.missing ≡ find (is_missing (names_of (objects s))) (flat_map needed_by (available program (map object_of files)))
@@ -80,19 +81,19 @@ pub record HasReadNext {D : Type 0} (facts : D → DiskFacts) (source : Source) 
 abbrev pub walked_objects : List ℕ → ℕ → List Library → List Placed
 walked_objects program base files = place base (available program (map object_of files))
 
--- B3 if a name is missing, otherwise the first of B4 and B5 that applies
+-- B3 if a name is missing, and otherwise the first of B4 and B5 that refuses, or none
 abbrev pub walked_refusal : List ℕ → ℕ → Option Need → List Library → Option BindRefusal
 walked_refusal program base missing files =
     first_of (option_map missing_by missing ∷ placed_refusal (walked_objects program base files) ∷ [])
 
--- `first` is the first refusal of the tests, or none. If `answer` is accepted, no test refuses. If
--- `answer` is a refusal, it is `first` or refused memory.
+-- `first` is the first refusal of the tests, or none. If `answer` is a success, no test refuses. If
+-- `answer` is a refusal, it is `first` or states that memory was refused.
 pub record IsTestedBy {A : Type 0} (first : Option BindRefusal) (answer : Result A BindRefusal) : Type 0 where
   pub accepted : OnOk answer (first ≡ None)
   pub refused : IfErr answer (IsFirstOrWantsMemory first)
 
--- Either no test refuses, and the answer is the image of these objects; or the answer is the first
--- refusal that applies, or refused memory.
+-- The answer is the image of these objects, and no test refuses; or the answer is the first
+-- refusal, or states that memory was refused.
 pub record IsImageOf (first : Option BindRefusal) (objects : List Placed) (answer : Result MemoryImage BindRefusal) : Type 0 where
   pub tested : IsTestedBy first answer
   pub ok : IfOk answer (λ image. image ≡ image_of objects)

@@ -1,4 +1,4 @@
--- The fields at their offsets in bytes.
+-- The fields at their offsets, in bytes.
 use Rattle.std.specs.Prelude.{ℕ, ◌+◌, ◌*◌, ◌==◌, List, map, take, drop, if◌then◌else◌}
 use Rattle.std.specs.List.{range_with_len, starts_with}
 use Rattle.std.specs.Int.{Width, w16, w32, w64, from_le_bytes}
@@ -13,7 +13,7 @@ use Rattle.roots.specs.declared.root.Root.{Root}
 use Rattle.roots.specs.declared.catalogue.Catalogue.{Catalogue}
 use Rattle.roots.specs.declared.entry.Entry.{Entry}
 
--- the number in the bytes from `at` on
+-- the number whose bytes begin at offset `at`
 abbrev pub number_at : Width → ℕ → List ℕ → ℕ
 number_at w at bytes = from_le_bytes w (drop at bytes)
 
@@ -21,11 +21,11 @@ number_at w at bytes = from_le_bytes w (drop at bytes)
 abbrev pub extent_of : List ℕ → Extent
 extent_of bytes = record { start = from_le_bytes w32 bytes; count = from_le_bytes w32 (drop 4 bytes) }
 
--- n values, one after the other, in steps of `step` bytes
+-- n values, which begin `step` bytes apart
 unfoldable pub values_at : {A : Type 0} → (List ℕ → A) → ℕ → ℕ → ℕ → List ℕ → List A
 values_at read step n at bytes = map (λ k. read (drop (at + step * k) bytes)) (range_with_len 0 n)
 
--- the list in a root sector: of catalogues or of entries, depending on the sector's magic
+-- the list in a root sector: a list of catalogues or of entries, depending on the sector's magic
 unfoldable pub list_of : List ℕ → EntryList
 list_of bytes =
     if starts_with (λ a b. a == b) bytes magic_2

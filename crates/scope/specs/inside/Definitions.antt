@@ -1,5 +1,6 @@
--- Definitions of names that are identified by numbers, and the definitions found for the symbols of an
--- order. A reader doesn't have to believe any of this.
+-- Definitions of names that are identified by numbers, and the definitions that were found for the
+-- symbols of an order. To understand the contracts of public calls, you don't need these
+-- definitions.
 use Rattle.std.specs.Prelude.{ℕ, List, [], Option, Some, None, ◌≡◌, ◌<◌, ◌≤◌, ◌+◌, ◌==◌, ◌⊎◌, true, length, map, slice_index_or, if◌then◌else◌}
 use Rattle.elf_file.specs.Dynamic.{is_symbolic}
 use Rattle.elf_dynamic.specs.Symbol.{symbols}
@@ -18,44 +19,48 @@ files_of objects = map (λ o. o.file) objects
 abbrev pub IsExported : List Named → NumberedSymbol → Type 0
 IsExported objects s = is_exported (file_at objects s.object) s.symbol ≡ true
 
--- the target of a kept definition: symbol number `symbol` of `object`, or none if `symbol` is 0
+-- the target of a stored definition: symbol number `symbol` of `object`, or none if `symbol` is 0
 unfoldable pub kept_target : ℕ → ℕ → Option Target
 kept_target object symbol = if symbol == 0 then None else Some (At object symbol)
 
 abbrev pub nth_target : List (Option Target) → ℕ → Option Target
 nth_target kept n = slice_index_or kept n None
 
--- the definition kept for number `n` is exported symbol `at` of the list, whose name has the number `n`
+-- the definition that is stored for number `n` is exported symbol number `at` of the list, whose
+-- name has the number `n`
 pub record IsKept (objects : List Named) (all : List NumberedSymbol) (kept : List (Option Target)) (n at : ℕ) : Type 0 where
   pub within : at < length all
   pub exported : IsExported objects (nth_symbol all at)
   pub told : (nth_symbol all at).number ≡ n
   pub is : nth_target kept n ≡ Some (At (nth_symbol all at).object (nth_symbol all at).symbol)
 
--- no definition is kept for number `n`, or the kept one is among the first `count` symbols of the list
+-- no definition is stored for number `n`, or the stored one is among the first `count` symbols of
+-- the list
 abbrev pub IsOneOf : List Named → List NumberedSymbol → ℕ → List (Option Target) → ℕ → Type 0
 IsOneOf objects all count kept n = (nth_target kept n ≡ None) ⊎ ((at : ℕ) × (at < count) × IsKept objects all kept n at)
 
--- for each number, the kept definition is the first definition among the first `count` symbols of the list
+-- for each number, the stored definition is the first definition among the first `count` symbols of
+-- the list
 pub record AreFirst (objects : List Named) (all : List NumberedSymbol) (count : ℕ) (kept : List (Option Target)) : Type 0 where
   pub size : length kept ≡ length all + 1
   pub each : (n : ℕ) → IsOneOf objects all count kept n
   pub known : (k : ℕ) → k < count → IsExported objects (nth_symbol all k) → (at : ℕ) × (at ≤ k) × IsKept objects all kept (nth_symbol all k).number at
 
--- for each number, the kept definition is the last definition among the first `count` symbols of the list
+-- for each number, the stored definition is the last definition among the first `count` symbols of
+-- the list
 pub record AreLast (objects : List Named) (all : List NumberedSymbol) (count : ℕ) (kept : List (Option Target)) : Type 0 where
   pub size : length kept ≡ length all + 1
   pub each : (n : ℕ) → IsOneOf objects all count kept n
   pub known : (k : ℕ) → k < count → IsExported objects (nth_symbol all k) → (at : ℕ) × (k ≤ at) × IsKept objects all kept (nth_symbol all k).number at
 
--- the first `count` symbols of the list are the symbols of the objects up to the object at `place`, and no other
--- symbols
+-- the first `count` symbols of the list are exactly the symbols of the objects up to the object at
+-- `place`
 pub record AreUpTo (all : List NumberedSymbol) (count place : ℕ) : Type 0 where
   pub within : count ≤ length all
   pub low : (k : ℕ) → k < count → (nth_symbol all k).object ≤ place
   pub high : (k : ℕ) → count ≤ k → k < length all → place < (nth_symbol all k).object
 
--- a definition, if it belongs to the object at `place`, and otherwise none
+-- the definition, if it is one by the object at `place`, and otherwise none
 unfoldable pub own_of : ℕ → Option Target → Option Target
 own_of place None = None
 own_of place (Some Zero) = None

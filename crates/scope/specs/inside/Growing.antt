@@ -1,4 +1,5 @@
--- A queue to which several places are added. A reader doesn't have to believe this definition.
+-- A queue to which several places are added. To understand the contracts of public calls, you don't
+-- need this definition.
 use Rattle.std.specs.Prelude.{ℕ, List, fold}
 use Rattle.scope.specs.Queue.{grown_by}
 

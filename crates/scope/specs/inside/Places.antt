@@ -1,4 +1,5 @@
--- The flags of the queue of places. A reader doesn't have to believe this definition.
+-- The flags of the queue of places. To understand the contracts of public calls, you don't need
+-- this definition.
 use Rattle.std.specs.Prelude.{ℕ, ◌≡◌, ◌<◌, List, Bool, false, length, get_or}
 use Rattle.scope.specs.Levels.{is_among}
 use Rattle.scope.specs.Queue.{AreApart}

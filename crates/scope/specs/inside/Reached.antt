@@ -1,11 +1,13 @@
--- How far a queue has been processed. A reader doesn't have to believe this definition.
+-- The processed part of a queue. To understand the contracts of public calls, you don't need this
+-- definition.
 use Rattle.std.specs.Prelude.{◌≡◌, ◌<◌, ℕ, ◌+◌, List, ◌++◌, length, drop}
 use Rattle.std.specs.List.{flat_map, concat}
 use Rattle.scope.specs.Levels.{levels_after, joined_levels}
 use Rattle.scope.specs.inside.Growing.{grown}
 
--- The first `i` objects of the queue have been processed. `earlier` has all levels up to the current
--- one. The objects `walked` of the current level have been processed, and the objects `left` haven't.
+-- The first `i` objects of the queue have been processed. `earlier` has all levels up to the
+-- current one. Of the current level, the objects `walked` have been processed, and the objects
+-- `left` haven't.
 pub record Reached (needs : ℕ → List ℕ) (n : ℕ) (first places : List ℕ) (i : ℕ) : Type 0 where
   pub earlier : List ℕ
   pub walked : List ℕ

@@ -1,4 +1,4 @@
--- What is true of a disk in memory at any moment.
+-- Laws about a disk in memory, which hold at any moment.
 use Rattle.std.specs.Prelude.{◌≡◌, ◌<◌, ◌==◌, ℕ, List, [], ◌∷◌, set, take, drop, length, false, filter, All}
 use Rattle.std.proofs.Common.{sym, subst, arith}
 use Rattle.std.proofs.lemmas.List.{get_or_past, take_all}
@@ -47,7 +47,7 @@ contents_whole start (w ∷ writes) whole whole_writes =
     contents_whole (set start w.at w.content) writes (All-set IsWhole start w.at w.content (whole_writes 0 w (omega arith)) whole)
     (All-tail IsWholeWrite w writes whole_writes)
 
--- every choice of a sector that the disk has is whole
+-- every choice of a sector of the disk is whole
 pub choices_whole : (start : List Sector) (writes : List Written) (synced k : ℕ) → k < length start
     → All IsWhole start → All (λ (write : Written). IsWhole write.content) writes → All IsWhole (choices start writes synced k)
 choices_whole start writes synced k lt whole whole_writes =

@@ -12,15 +12,15 @@ pub length-contents : (start : List Sector) (writes : List Written) → length (
 length-contents start [] = refl
 length-contents start (w ∷ writes) = length-contents (set start w.at w.content) writes ∙ length-set start w.at w.content
 
--- the first n writes, and then the writes after them, leave the same contents as all writes at once
+-- the contents after all writes are those after the first n writes and then the other writes
 pub contents_split : (start : List Sector) (writes : List Written) (n : ℕ)
     → contents start writes ≡ contents (contents start (take n writes)) (drop n writes)
 contents_split start writes zero = refl
 contents_split start [] (suc n) = refl
 contents_split start (w ∷ writes) (suc n) = contents_split (set start w.at w.content) writes n
 
--- a write at the front of the list adds its content to the contents that were written to its own sector,
--- and not to those of another sector
+-- a write at the front of the list adds its content to the contents that were written to its own
+-- sector, but not to those of another sector
 pub written_to_same : (k : ℕ) (w : Written) (writes : List Written) → w.at ≡ k → written_to k (w ∷ writes) ≡ w.content ∷ written_to k writes
 written_to_same k w writes same = rw (eq-eqb w.at k same) refl
 

@@ -28,7 +28,8 @@ pub record HoldsFirst {D : Type 0} (facts : D → DiskFacts) (old new : Opened D
   pub holders : (sector : ℕ) → holders_of new.held sector ≡ holders_of old.held sector + times sector handles
   pub beside : StaysBeside facts old new
 
--- Either each byte string has one more holder; or memory was refused, and the holders are as before.
+-- Each byte string has one more holder; or memory was refused, and the holders are the same as
+-- before.
 pub record HoldsAll {D : Type 0} (facts : D → DiskFacts) (old new : Opened D) (result : Result (Vec ℕ) StoreRefusal) : Type 0 where
   pub ok : IfOk result (λ handles. HoldsFirst facts old new (length old.entries) handles.items)
   pub err : IfErr result (λ e. (e ≡ OutOfMemory) × KeepsHeld facts old new)

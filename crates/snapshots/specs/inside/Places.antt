@@ -1,4 +1,4 @@
--- The positions that a snapshot keeps are valid. No reader has to believe this definition.
+-- The positions in a snapshot are valid. A reader needn't check this definition.
 use Rattle.std.specs.Prelude.{ℕ, ◌<◌, ◌≤◌, List, All, length, nat_eq}
 use Rattle.std.specs.List.{IsDistinct}
 

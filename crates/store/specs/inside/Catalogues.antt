@@ -7,7 +7,7 @@ use Rattle.roots.specs.Catalogue.{catalogue_bytes, catalogue_of_sectors}
 use Rattle.states.specs.Limits.{most_libraries, most_catalogue_entries}
 use Rattle.states.specs.Cost.{catalogues_for}
 
--- the sector at `at`, as a catalogue that lists these entry sectors
+-- sector number `at` with a catalogue that lists these entry sectors
 abbrev pub catalogue_single : ℕ → List ℕ → SingleSector
 catalogue_single at sectors = record { at = at; content = catalogue_bytes (catalogue_of_sectors sectors) }
 

@@ -20,7 +20,7 @@ use Rattle.store.specs.Stands.{StandsBy, StandsAs, Stands, AreCatalogued, extent
 use Rattle.store.specs.inside.Catalogues.{CanBeCatalogued}
 use Rattle.store.specs.inside.Room.{HavePlaces, HasPlace}
 
--- the sectors that are staged
+-- the staged sectors
 abbrev pub staged_sectors : Staged → List ℕ
 staged_sectors Nothing = []
 staged_sectors (Catalogues catalogues) = catalogues
@@ -64,20 +64,20 @@ IsStaged m (Put put catalogues) bytes listed =
 abbrev pub IsApartFrom : Staged → List PlacedEntry → Type 0
 IsApartFrom staged written = (k : ℕ) → Contains (staged_sectors staged) k → Contains (flat_map sectors_of written) k → ⊥
 
--- Earlier writes are synced before the root is written: staging makes a sync, and if nothing is staged, nothing was
--- written earlier.
+-- A sync follows the earlier writes before the root is written: staging makes a sync, and if
+-- nothing is staged, there were no earlier writes.
 abbrev pub HasSync : Staged → (written : List PlacedEntry) → Type 0
 HasSync Nothing written = written ≡ []
 HasSync staged written = Unit
 
--- `m` and `now` have the same contents in the sectors of the entries `written` and of their bytes. These
--- sectors were written before.
+-- `m` and `now` have the same contents in the sectors of the entries `written` and of their bytes,
+-- which were written before the change.
 pub record AreWritten (now : List Sector) (written : List PlacedEntry) (m : List Sector) : Type 0 where
   pub each : (k : ℕ) → Contains (flat_map sectors_of written) k → sector m k ≡ sector now k
 
--- The change stages only sectors that `s` doesn't use and that weren't written before. Let sectors hold
--- `s`, the staged contents, and the contents that were written before. Then they hold `s'` after the next
--- root is written.
+-- The change stages only sectors that `s` doesn't use and that weren't written before. If sectors
+-- hold `s`, the staged contents, and the contents that were written before, then they hold `s'` as
+-- soon as the next root is written.
 pub record IsFollowed (version : Version) (root : Root) (entries : List PlacedEntry) (s : State) (now : List Sector) (written : List PlacedEntry)
     (change : Change) (bytes listed : List ℕ) (others : List PlacedEntry) (s' : State) : Type 0 where
   pub unused : (k : ℕ) → Contains (staged_sectors change.staged) k → Contains (used root entries) k → ⊥
@@ -86,8 +86,8 @@ pub record IsFollowed (version : Version) (root : Root) (entries : List PlacedEn
   pub stands : (m : List Sector) → StandsBy version m root entries s → IsStaged m change.staged bytes listed → AreWritten now written m
       → StandsBy Two (set m (slot_of change.root.generation) (root_bytes change.root)) change.root others s'
 
--- The state before a change, with its root and its entries; the entries that were written beside this state
--- since; and the state after the change, with its entries.
+-- The state before a change, with its root and its entries; the entries that were written since
+-- then, before the change; and the state after the change, with its entries.
 pub record Transition : Type 0 where
   pub version : Version
   pub root : Root
@@ -103,8 +103,9 @@ pub record IsBegun (disk : DiskFacts) (change : Change) (bytes listed : List ℕ
   pub stands : (m : List Sector) → Mixture disk m → StandsBy t.version m t.root t.entries t.before
   pub followed : IsFollowed t.version t.root t.entries t.before disk.now t.written change bytes listed t.others t.after
 
--- A change was carried out, or a call failed. For each transition that the change can make, a stop at any moment leaves
--- the state before or the state after. If no call failed, every mixture then holds the state after.
+-- A change was carried out, or a call failed. For each transition that the change can make, a stop
+-- at any moment leaves the state before the change or the state after it. If no call failed, every
+-- mixture holds the state after it.
 pub record IsCarriedOut (old new : DiskFacts) (change : Change) (bytes listed : List ℕ) (result : Result (Unit {0}) DiskFault) : Type 0 where
   pub any_moment : (t : Transition) → IsBegun old change bytes listed t → LeavesOnly old new (λ m. StandsAs t.version m t.before ⊎ Stands m t.after)
   pub done : (t : Transition) → IsBegun old change bytes listed t

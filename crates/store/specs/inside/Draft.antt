@@ -1,4 +1,5 @@
--- The data that an update keeps in addition to those of its store, whatever the disk does.
+-- The data that an update keeps in addition to those of its store. The definitions hold on any
+-- disk.
 use Rattle.std.specs.Prelude.{◌≡◌, ◌≢◌, ◌↔◌, ℕ, ◌+◌, ◌-◌, ◌*◌, ◌<◌, ◌≤◌, Bool, List, [], length, All, Contains, IsTrue, if◌then◌else◌}
 use Rattle.std.specs.Prelude.{Result, Ok, Err, IfOk, IfErr, OnErr}
 use Rattle.std.specs.List.{flat_map}
@@ -27,7 +28,8 @@ use Rattle.store.specs.inside.Stored.{opened}
 abbrev pub drafting : {D : Type 0} → D → Kept → Draft → Drafted D
 drafting disk kept draft = record { store = opened disk kept; entries = draft.entries.items; preloads = draft.preloads.items; touched = draft.touched }
 
--- the sectors of an entry that the list `others` doesn't use: none if the list has the entry
+-- the sectors of an entry that aren't also in use by the list `others`: none if `others` has the
+-- entry, and otherwise all
 abbrev pub own_in : (others : List PlacedEntry) → PlacedEntry → List ℕ
 own_in others placed = if lists others placed then [] else sectors_of placed
 
@@ -35,11 +37,12 @@ own_in others placed = if lists others placed then [] else sectors_of placed
 abbrev pub own_sectors_in : (others entries : List PlacedEntry) → List ℕ
 own_sectors_in others entries = flat_map (own_in others) entries
 
--- If the sector of `placed` is the sector of an entry of `others`, then `others` contains `placed`.
+-- If an entry of `others` is in the sector of `placed`, then this entry is `placed`.
 abbrev pub IsOneOrApart : List PlacedEntry → PlacedEntry → Type 0
 IsOneOrApart others placed = IsTrue (lists others placed) → Contains others placed
 
--- The entries can be a draft's list: each of them is in the current list, or in a sector of its own.
+-- The entries can be a draft's list: each of them is in the current list, or in a sector that no
+-- current entry has.
 pub record IsDraftList (standing entries : List PlacedEntry) : Type 0 where
   pub fit : HaveSpellings entries
   pub names : HaveOwnNames entries
@@ -53,9 +56,9 @@ pub record ArePreloads (libraries : ℕ) (preloads : List ℕ) : Type 0 where
   pub inside : All (λ position. position < libraries) preloads
   pub once : AreDistinct preloads
 
--- The number of sectors that stay unused beside a draft of `libraries` byte strings, if the current list
--- has `standing` catalogues. They are for the catalogues of the commit, and for the catalogues of the
--- change after the commit.
+-- The number of sectors that stay unused beside a draft of `libraries` byte strings, if the current
+-- list has `standing` catalogues. These sectors are for the catalogues of the commit, and for those
+-- of the change after the commit.
 abbrev pub spare_of : (standing libraries : ℕ) → ℕ
 spare_of standing libraries = standing + 2 * (catalogues_for libraries - standing)
 
@@ -103,8 +106,8 @@ pub record KeepsList (old new : Kept) : Type 0 where
   pub index : new.index ≡ old.index
   pub held : new.held ≡ old.held
 
--- Either sectors were taken for the bytes beside a draft, and only the layout changed; or the call
--- refused, and nothing changed.
+-- Sectors were taken for the bytes in addition to a draft's sectors, and only the layout changed;
+-- or the call refused, and nothing changed.
 pub record TakesBeside (old new : Kept) (name bytes : List ℕ) (spare : ℕ) (Refuses : StoreRefusal → Type 0)
     (result : Result PlacedEntry StoreRefusal) : Type 0 where
   pub kept : new ≡ with_layout old new.layout

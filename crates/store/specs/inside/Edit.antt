@@ -11,7 +11,7 @@ use Rattle.store.specs.declared.holds.HeldRow.{HeldRow}
 use Rattle.store.specs.Stands.{catalogues_of, name_of, sectors_of}
 use Rattle.store.specs.inside.Room.{IsGivenUp, IsReleased}
 
--- an entry for positions that have no entry
+-- an entry that stands for positions that have no entry
 abbrev pub no_entry : PlacedEntry
 no_entry = record { at = 0; entry = record { file_length = 0; name_length = 0; extent_count = 0; name = []; extents = [] } }
 
@@ -33,7 +33,7 @@ IsWithin (Append put) count = Unit
 IsWithin (Replace position put) count = position < count
 IsWithin (Remove position) count = position < count
 
--- the edit keeps the names of the entries different
+-- after the edit, no two entries have the same name
 abbrev pub KeepsNames : Edit → List PlacedEntry → Type 0
 KeepsNames Nothing entries = Unit
 KeepsNames (Append put) entries = All (λ other. name_of other.entry ≢ name_of put.entry) entries
@@ -82,7 +82,7 @@ gone_entry (Append put) entries = []
 gone_entry (Replace position put) entries = sectors_of (slice_index_or entries position no_entry)
 gone_entry (Remove position) entries = sectors_of (slice_index_or entries position no_entry)
 
--- the sectors of the old catalogues, if the edit changes the list
+-- the sectors of the old catalogues if the edit changes the list, and otherwise none
 abbrev pub gone_catalogues : Edit → Root → List ℕ
 gone_catalogues Nothing root = []
 gone_catalogues (Append put) root = catalogues_of root
@@ -93,7 +93,7 @@ gone_catalogues (Remove position) root = catalogues_of root
 abbrev pub gone_sectors : Edit → Root → List PlacedEntry → List ℕ
 gone_sectors edit root entries = gone_entry edit entries ++ gone_catalogues edit root
 
--- The sectors that the state no longer uses are unused now, except those that somebody holds.
+-- The sectors that the state no longer uses are unused now, except those of held byte strings.
 abbrev pub ReleasesReplaced : Edit → Root → List PlacedEntry → (held left : List HeldRow) (old new : List Bool) → Type 0
 ReleasesReplaced Nothing root entries held left old new = (left ≡ held) × IsReleased old new []
 ReleasesReplaced (Append put) root entries held left old new = (left ≡ held) × IsReleased old new (catalogues_of root)

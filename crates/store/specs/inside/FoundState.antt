@@ -1,4 +1,4 @@
--- The data that a store finds on its disk, while nobody holds anything.
+-- The data that a store finds on its disk when nobody holds a byte string.
 use Rattle.std.specs.Prelude.{◌≡◌, ◌+◌, ◌<◌, ℕ, Bool, List, [], length, IsTrue, Result, IfOk, IfErr, OnOk}
 use Rattle.sector_disk.specs.Disk.{Sector, DiskFacts, IsSynced, AreCallsExactly, AreCallsAtMost}
 use Rattle.roots.specs.Limits.{most_catalogues}
@@ -19,16 +19,16 @@ pub record IsFound (root : Root) (entries : List PlacedEntry) (sectors : List �
   -- the sectors of the entries, in the order of the entries
   pub listed : sectors ≡ entry_sectors entries
 
--- The contents of a disk, honest or not, were found. That took `before` calls, and then one for each catalogue and each
--- entry.
+-- The contents of a disk, honest or not, were found. The call made `before` calls, and then one for
+-- each catalogue and each entry.
 pub record IsFoundAfter (before : ℕ) (old new : DiskFacts) (result : Result FoundState StoreRefusal) : Type 0 where
   pub calls : AreCallsAtMost (before + most_catalogues + most_libraries) old new
   pub all_calls : IfOk result (λ found. AreCallsExactly (before + length (catalogues_of found.root) + length found.entries.items) old new)
   pub kept : IfOk result (λ found. IsFound found.root found.entries.items found.sectors.items found.index found.layout × (found.root.sectors ≡ old.sectors))
   pub device : IfErr result (λ e. e ≡ Device → old.failures < new.failures)
 
--- The contents of a disk that a stop may have left were found, or the disk was refused with a refusal that
--- `Refuses` allows.
+-- The contents of a disk, which a stop may have left, were found, or the disk was refused with a
+-- refusal that `Refuses` allows.
 pub record Finds (Refuses : List Sector → StoreRefusal → Type 0) (old new : DiskFacts) (result : Result FoundState StoreRefusal) : Type 0 where
   pub found : IsFoundAfter 3 old new result
   pub reads : IsTrue old.honest → AreReadsBehindSync old new

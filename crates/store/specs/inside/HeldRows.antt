@@ -6,7 +6,7 @@ use Rattle.store.specs.declared.placed_entry.PlacedEntry.{PlacedEntry}
 use Rattle.store.specs.declared.holds.HeldRow.{HeldRow}
 use Rattle.store.specs.Holds.{HaveOwnRows}
 
--- no byte string with this entry sector is held
+-- no held byte string has its entry in this sector
 abbrev pub IsUnheld : List HeldRow → ℕ → Type 0
 IsUnheld held sector = All (λ hold. hold.placed.at ≢ sector) held
 
@@ -25,22 +25,22 @@ pub record IsAtPlace (held : List HeldRow) (sector place : ℕ) (hold : HeldRow)
   pub is : (d : HeldRow) → slice_index_or held place d ≡ hold
   pub its : hold.placed.at ≡ sector
 
--- a byte string that nobody held now has one holder, and a row at some place of the table
+-- a byte string that nobody held has one holder now, and a row in the table
 pub record IsHeldOnce (old new : List HeldRow) (placed : PlacedEntry) : Type 0 where
   pub absent : IsUnheld old placed.at
   pub place : ℕ
   pub inside : place ≤ length old
   pub is : new ≡ insert old place (first_row placed)
 
--- a held byte string has one more holder
+-- the held byte string whose entry is in `sector` has one more holder
 pub record IsHeldMore (old new : List HeldRow) (sector : ℕ) : Type 0 where
   pub place : ℕ
   pub hold : HeldRow
   pub at : IsAtPlace old sector place hold
   pub is : new ≡ set old place (with_holders (hold.holders + 1) hold)
 
--- the row of a held byte string is now marked as not listed, because the state no longer lists the byte
--- string
+-- the row of the held byte string is marked as not listed now, because the state no longer lists
+-- the byte string
 pub record IsLeft (old new : List HeldRow) (sector : ℕ) : Type 0 where
   pub place : ℕ
   pub hold : HeldRow
@@ -64,8 +64,8 @@ pub record IsLetGo (old new : List HeldRow) (sector : ℕ) (hold : HeldRow) : Ty
   pub last : hold.holders < 2
   pub is : new ≡ remove old place
 
--- A row of the table is sound: it has a holder, and if it is marked as listed, the state lists its byte
--- string.
+-- A row of the table is sound: it has a holder, and if it is marked as listed, the state lists its
+-- byte string.
 pub record IsHeldRow (entries : List PlacedEntry) (hold : HeldRow) : Type 0 where
   pub fits : EntryHasSpelling hold.placed.entry
   pub some : 0 < hold.holders

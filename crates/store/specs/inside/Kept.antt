@@ -1,4 +1,4 @@
--- The data that a store keeps beside its disk, whatever the disk does.
+-- The data that a store keeps beside its disk. The definitions hold on any disk.
 use Rattle.std.specs.Prelude.{◌≡◌, ◌-◌, ℕ, Bool, List, ◌++◌, length, All}
 use Rattle.extents.specs.Extent.{AreDistinct}
 use Rattle.extents.specs.Used.{ClaimsJust}
@@ -16,8 +16,8 @@ use Rattle.store.specs.inside.HeldRows.{AreHeldRows}
 abbrev pub HaveSpellings : List PlacedEntry → Type 0
 HaveSpellings entries = All (λ placed. EntryHasSpelling placed.entry) entries
 
--- In the layout of a disk of `sectors` sectors, exactly the sectors in use are claimed, each once:
--- those that the state uses and those that only holders use.
+-- In the layout of a disk of `sectors` sectors, the claimed sectors are exactly those in use, each
+-- used once: those that the state uses, and those that only held byte strings use.
 pub record AreClaimed (sectors : ℕ) (layout : List Bool) (used lone : List ℕ) : Type 0 where
   pub inside : All (IsUsable sectors) lone
   pub once : AreDistinct (used ++ lone)
@@ -29,7 +29,8 @@ pub record IsKept (root : Root) (entries : List PlacedEntry) (held : List HeldRo
   pub counted : length entries ≡ root.library_count
   pub entries_fit : HaveSpellings entries
   pub apart : UsesApart root.sectors root entries
-  -- beside the sectors that only holders use, there is room for the catalogues of the next change
+  -- in addition to the sectors that only held byte strings use, there is room for the catalogues of
+  -- the next change
   pub room : HasRoom (root.sectors - length (lone_sectors held)) root.list entries
   pub names : HaveOwnNames entries
   pub rows : AreHeldRows entries held

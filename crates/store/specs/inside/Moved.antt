@@ -9,7 +9,7 @@ one k x = if x == k then 1 else 0
 abbrev pub occurs : ℕ → List ℕ → ℕ
 occurs k xs = sum_by (one k) xs
 
--- The sectors in use before a change and those that it took are, together, the sectors in use after the
--- change and those that it gave up.
+-- The sectors in use before a change, together with those that it took, are the sectors in use
+-- after the change together with those that it gave up.
 pub record IsMoved (before more after gone : List ℕ) : Type 0 where
   pub parts : (k : ℕ) → occurs k after + occurs k gone ≡ occurs k (before ++ more)

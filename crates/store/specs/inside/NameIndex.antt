@@ -1,4 +1,4 @@
--- The order of the entries' names, in which an entry is found by its name.
+-- The order of the entries' names, which is used to find an entry by its name.
 use Rattle.std.specs.Prelude.{◌≡◌, ℕ, ◌+◌, ◌<◌, ◌≤◌, List, length, slice_index, false, nat_lt, ◌-◌, if◌then◌else◌}
 use Rattle.std.specs.List.{range_with_len}
 use Rattle.std.specs.List.Sorted.{IsPermutation, IsSortedBy}
@@ -14,7 +14,7 @@ pub record Index : Type 0 where
   pub positions : List ℕ
   pub room : ℕ
 
--- the comparison of the name at `position` with the name `name`
+-- the order of the name at `position` and the name `name`
 abbrev pub order_to : List (List ℕ) → List ℕ → ℕ → Ordering
 order_to names name position = slice_cmp nat_cmp (name_at names position) name
 
@@ -37,6 +37,7 @@ pub record IsPlace (names : List (List ℕ)) (positions name : List ℕ) (place 
   pub before : (k : ℕ) → k < place → order_to names name (slice_index positions k) ≡ Less
   pub behind : (k : ℕ) → place ≤ k → k < length positions → is_lt (order_to names name (slice_index positions k)) ≡ false
 
--- the new value of `position` after the entry at `gone` was removed: the entries after `gone` moved up
+-- the new value of `position` after the entry at `gone` was removed: the entries after `gone` move
+-- up by one position
 abbrev pub closed_up : ℕ → ℕ → ℕ
 closed_up gone position = if nat_lt gone position then position - 1 else position

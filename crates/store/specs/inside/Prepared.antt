@@ -44,8 +44,9 @@ IsTestedNew kept e = ((e ≡ Reopen) × IsTrue kept.failed)
     ⊎ ((e ≡ TooMany) × IsFalse kept.failed × (most_libraries ≤ length kept.entries.items))
     ⊎ ((e ≡ GenerationEnd) × IsFalse kept.failed × (length kept.entries.items < most_libraries) × (kept.root.generation ≡ last_generation))
 
--- The staged sectors are claimed in the layout, beside those that were claimed before. The next root
--- leads to the new list. Then the sectors that only the old list used are given up.
+-- The staged sectors are claimed in the layout, in addition to those that were claimed before. The
+-- next root leads to the new list. After the change, the sectors that only the old list used are
+-- given up.
 pub record IsPrepared (root : Root) (entries : List PlacedEntry) (held : List HeldRow) (layout : List Bool) (prepared : Prepared) : Type 0 where
   pub before : List Bool
   pub kept : IsKept root entries held before
@@ -56,7 +57,8 @@ pub record IsPrepared (root : Root) (entries : List PlacedEntry) (held : List He
   pub next : IsNext root (edited prepared.edit entries) catalogues preloads prepared.change.root
   pub moved : IsMoved (used root entries) (staged_sectors prepared.change.staged)
       (used prepared.change.root (edited prepared.edit entries)) (gone_sectors prepared.edit root entries)
-  -- there is room for the next change, also if holders keep the sectors of the replaced or removed entry
+  -- there is room for the next change, even if holders keep the sectors of the replaced or removed
+  -- entry
   pub room : (sectors : ℕ) → root.sectors ≤ sectors + (length (lone_sectors held) + length (gone_entry prepared.edit entries))
       → HasRoom sectors prepared.change.root.list (edited prepared.edit entries)
 
@@ -72,8 +74,8 @@ pub record IsReady (sectors : ℕ) (kept : Kept) (prepared : Prepared) : Type 0 
   pub listed : kept.sectors.items ≡ entry_sectors kept.entries.items
   pub usable : IsFalse kept.failed
 
--- With these bytes, the prepared change makes the state `s'` from the state `s`, if the entries `written` were written
--- before.
+-- With the bytes `bytes`, the prepared change makes the state `s'` from the state `s`, if the
+-- entries `written` were written before the change.
 abbrev pub Makes : (now : List Sector) (written : List PlacedEntry) → Kept → Prepared → (bytes : List ℕ) → (s s' : State) → Type 0
 Makes now written kept prepared bytes s s' = IsFollowed Two kept.root kept.entries.items s now written prepared.change
     bytes (entry_sectors (edited prepared.edit kept.entries.items)) (edited prepared.edit kept.entries.items) s'
@@ -83,7 +85,7 @@ pub record IsMade (old new : Kept) (prepared : Prepared) : Type 0 where
   pub root : new.root ≡ prepared.change.root
   pub entries : new.entries.items ≡ edited prepared.edit old.entries.items
 
--- The effect of preparing a change, with refusals that `Refuses` allows. Preparing doesn't change the
+-- Preparing a change has this effect, with refusals that `Refuses` allows. It doesn't change the
 -- store's value in contracts.
 pub record Prepares (old new : Kept) (Refuses : StoreRefusal → Type 0) (result : Result Prepared StoreRefusal) : Type 0 where
   pub same : ShowsSame old new
@@ -103,7 +105,7 @@ pub record StandsAt (entries : List PlacedEntry) (name : List ℕ) (position : �
   pub inside : position < length entries
   pub named : (d : PlacedEntry) → name_of (slice_index_or entries position d).entry ≡ name
 
--- The change removes the entry with this name. The sectors of the catalogues weren't in use.
+-- The change removes the entry with this name. The sectors of the catalogues weren't in use before.
 pub record TakesOut (kept : Kept) (prepared : Prepared) (name : List ℕ) : Type 0 where
   pub position : ℕ
   pub at : StandsAt kept.entries.items name position
@@ -112,8 +114,8 @@ pub record TakesOut (kept : Kept) (prepared : Prepared) (name : List ℕ) : Type
   pub taken : AreTaken (layout_of kept.root.sectors (in_use kept.root kept.entries.items kept.held)) (catalogues_of prepared.change.root)
   pub count : length (catalogues_of prepared.change.root) ≡ catalogues_for (length kept.entries.items - 1)
 
--- The change puts the bytes `bytes`. The sectors of these bytes, of their entry, and of the catalogues of
--- `libraries` libraries weren't in use.
+-- The change puts the bytes `bytes`. The sectors of these bytes, of their entry, and of the
+-- catalogues for `libraries` libraries weren't in use before.
 pub record Puts (kept : Kept) (prepared : Prepared) (edit : PlacedEntry → Edit) (libraries : ℕ) (bytes : List ℕ) : Type 0 where
   pub put : PlacedEntry
   pub edits : prepared.edit ≡ edit put

@@ -9,8 +9,9 @@ use Rattle.store.specs.declared.refusal.StoreRefusal.TheVariants.{NotFormatted, 
 use Rattle.store.specs.Opening.{HasRootMagic}
 use Rattle.store.specs.Stands.{IsIntact}
 
--- A sync was tried on an honest disk, and the disk was read. A stop at any moment leaves only contents that
--- a stop could leave before, and reads return the same contents as before.
+-- A sync of an honest disk succeeded or failed, and after it the disk was only read. A stop at any
+-- moment leaves only contents that a stop could leave before, and reads return the same contents as
+-- before.
 pub record AreReadsBehindSync (old new : DiskFacts) : Type 0 where
   pub leaves : LeavesOnly old new (Mixture old)
   pub now : new.now ≡ old.now

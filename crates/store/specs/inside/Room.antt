@@ -1,4 +1,4 @@
--- The sectors that a change takes, and those that it gives back.
+-- The sectors that a change takes, and those that it frees.
 use Rattle.std.specs.Prelude.{◌≡◌, ◌⊎◌, ℕ, ◌+◌, ◌<◌, ◌≤◌, Bool, List, ◌++◌, length, All, AllPairs, Contains}
 use Rattle.std.specs.Int.{div_ceil}
 use Rattle.sector_disk.specs.Disk.{sector_bytes}
@@ -20,7 +20,7 @@ use Rattle.store.specs.inside.HeldRows.{IsLeft, IsUnheld}
 abbrev pub IsRootOr : List ℕ → ℕ → Type 0
 IsRootOr places k = (k < root_sectors) ⊎ Contains places k
 
--- the sectors `gone` are claimed, each once, perhaps beside others
+-- the sectors `gone` are claimed, each once; other sectors may be claimed too
 abbrev pub AreClaimedOnce : List Bool → List ℕ → Type 0
 AreClaimedOnce layout gone = (kept : List ℕ) × ClaimsJust layout (kept ++ gone) × AreDistinct (kept ++ gone) × All (IsUsable (length layout)) gone
 
@@ -29,21 +29,21 @@ pub record IsReleased (old new : List Bool) (gone : List ℕ) : Type 0 where
   pub size : length new ≡ length old
   pub each : (kept : List ℕ) → ClaimsJust old (kept ++ gone) → AreDistinct (kept ++ gone) → ClaimsJust new kept
 
--- The state no longer uses the sectors of an entry and of its bytes, nor those of the catalogues. The
--- sectors of the catalogues are unused now. The sectors of the entry and of its bytes are unused too,
--- unless somebody holds the byte string.
+-- The state no longer uses the sectors of an entry and of its bytes, nor those of the catalogues.
+-- The sectors of the catalogues are unused now. The sectors of the entry and of its bytes are
+-- unused too, unless the byte string is held.
 abbrev pub IsGivenUp : (held left : List HeldRow) (old new : List Bool) (placed : PlacedEntry) (catalogues : List ℕ) → Type 0
 IsGivenUp held left old new placed catalogues =
     (IsLeft held left placed.at × IsReleased old new catalogues)
     ⊎ (IsUnheld held placed.at × (left ≡ held) × IsReleased old new (sectors_of placed ++ catalogues))
 
--- Catalogues have their places on a disk of `sectors` sectors: after the roots, and apart from each
--- other.
+-- Catalogues can be in these sectors of a disk of `sectors` sectors: the sectors are on the disk
+-- after the roots, and no two are the same.
 pub record HavePlaces (sectors : ℕ) (catalogues : List ℕ) : Type 0 where
   pub inside : All (IsUsable sectors) catalogues
   pub once : AreDistinct catalogues
 
--- An entry, its bytes and catalogues have their places on a disk of `sectors` sectors.
+-- An entry, its bytes and catalogues can be in their sectors on a disk of `sectors` sectors.
 pub record HasPlace (sectors : ℕ) (placed : PlacedEntry) (catalogues : List ℕ) : Type 0 where
   pub spelling : EntryHasSpelling placed.entry
   pub on_disk : All (IsOnDisk sectors) (extents_of placed.entry)

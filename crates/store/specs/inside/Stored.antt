@@ -18,7 +18,7 @@ use Rattle.store.specs.Stands.{entry_sectors}
 use Rattle.store.specs.inside.Kept.{IsKept}
 use Rattle.store.specs.inside.NameIndex.{IsIndex}
 
--- the value in contracts of a store with the disk `disk` and the data `kept`
+-- the value in contracts of a store whose disk is `disk` and whose data are `kept`
 abbrev pub opened : {D : Type 0} → D → Kept → Opened D
 opened disk kept = record { disk = disk; root = kept.root; entries = kept.entries.items; held = kept.held; failed = kept.failed }
 
@@ -30,16 +30,17 @@ IsStored sectors kept = IsKept kept.root kept.entries.items kept.held kept.layou
     × (IsFalse kept.failed → kept.sectors.items ≡ entry_sectors kept.entries.items)
     × (version_of kept.root ≡ Two)
 
--- the number of sectors that the state can use: all except those that only holders use
+-- the number of sectors that the state can use: all except those that only held byte strings use
 abbrev pub sectors_for : Kept → ℕ
 sectors_for kept = kept.root.sectors - length (lone_sectors kept.held)
 
--- the number of sectors of the 32 longest unused runs: 32 is the maximum number of extents of a byte string
+-- the number of sectors of the 32 longest unused runs; 32 is the maximum number of extents of a
+-- byte string
 abbrev pub longest_in : Kept → ℕ
 longest_in kept = sector_count (longest_runs kept.layout)
 
--- `old` and `new` have the same value in contracts: the same root, entries and held byte strings, and the
--- same flag whether a call failed.
+-- `old` and `new` have the same value in contracts: the same root, entries and held byte strings,
+-- and the same flag whether a call failed.
 pub record ShowsSame (old new : Kept) : Type 0 where
   pub root : new.root ≡ old.root
   pub entries : new.entries.items ≡ old.entries.items

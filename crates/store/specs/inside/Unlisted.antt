@@ -17,15 +17,16 @@ pub record KeepsRows (old new : List HeldRow) : Type 0 where
   pub holds : (sector : ℕ) (placed : PlacedEntry) → IsHeldBy old sector placed ↔ IsHeldBy new sector placed
   pub none : old ≡ [] → new ≡ []
 
--- The store has the current list `standing`. The sectors that this list uses and the draft's list `drafted`
--- doesn't use are still claimed, and so are the sectors of the current catalogues.
+-- The store's current list is `standing`. The sectors that this list uses and that the draft's list
+-- `drafted` doesn't use are still claimed, and so are the sectors of the current catalogues.
 pub record CanReleaseUnlisted (root : Root) (standing drafted : List PlacedEntry) (held : List HeldRow) (layout : List Bool) : Type 0 where
   pub before : List Bool
   pub kept : IsKept root standing held before
   pub list : IsDraftList standing drafted
   pub claimed : AreClaimedOnce layout (own_sectors_in drafted standing ++ catalogues_of root)
 
--- The sectors of the old list that the draft's list doesn't use are unused now, except those that somebody holds.
+-- The sectors of the old list that the draft's list doesn't use are unused now, except those of
+-- held byte strings.
 pub record ReleasesUnlisted (root : Root) (standing drafted : List PlacedEntry) (held left : List HeldRow) (old new : List Bool) : Type 0 where
   pub freed : List ℕ
   pub parts : (k : ℕ) → occurs k (lone_sectors left) + occurs k freed ≡ occurs k (lone_sectors held) + occurs k (own_sectors_in drafted standing)

@@ -27,18 +27,18 @@ IsLack l OutOfMemory = Unit {0}
 abbrev pub IsCut : State → ℕ → Lack → Type 0
 IsCut s k lack = (k < length s.libraries) × IsLack (slice_index_or s.libraries k no_library) lack
 
--- the status if a script is cut for this reason
+-- the status for a script that is cut for this reason
 abbrev pub lack_status : Lack → Status
 lack_status (Found finding) = cut_status finding
 lack_status OutOfMemory = NoMemory
 
--- the message if a script is cut at a library for this reason
+-- the message for a script that is cut at a library for this reason
 abbrev pub lack_line : Library → Lack → List ℕ
 lack_line l (Found finding) = said_line (finding_text l finding)
 lack_line l OutOfMemory = memory_line
 
--- how far a script went: through all files, each of which is a library with its entry's name, or to a
--- library at which the script was cut
+-- the script has all files, each of which is a library with its entry's name; or it was cut at a
+-- library
 abbrev pub IsGone : State → Option Cut → Type 0
 IsGone s None = All IsLibrary s.libraries
 IsGone s (Some cut) = IsCut s cut.position cut.lack
@@ -53,8 +53,8 @@ abbrev pub end_text : Purpose → List (List ℕ) → Option Cut → List ℕ
 end_text purpose preloads None = last_text purpose preloads
 end_text purpose preloads (Some cut) = codes "cut"
 
--- If the script was cut, the reason isn't the finding `Sound`. If the reason is that a library can't be
--- read, a call failed.
+-- If the script was cut, the reason isn't the finding `Sound`. If the reason is that a library
+-- can't be read, a call failed.
 abbrev pub IsLacking : (old new : DiskFacts) → Option Cut → Type 0
 IsLacking old new None = Unit {0}
 IsLacking old new (Some cut) = (cut.lack ≢ Found Sound) × (cut.lack ≡ Found Unreadable → old.failures < new.failures)

@@ -12,8 +12,8 @@ pub record AreListed (entries : List PlacedEntry) (libraries : List Library) : T
   pub name : (i : ℕ) → i < length entries → (d : PlacedEntry) → name_of (slice_index_or entries i d).entry ≡ (slice_index_or libraries i no_library).name
   pub size : (i : ℕ) → i < length entries → (d : PlacedEntry) → (slice_index_or entries i d).entry.file_length ≡ length (slice_index_or libraries i no_library).bytes
 
--- either the store is at a state with these libraries; or nothing is known about the store's disk, and
--- the store's entries have the libraries' names and lengths
+-- the store is at a state with these libraries; or nothing is known about the store's disk, and the
+-- store's entries have the libraries' names and lengths
 abbrev pub Lists : {D : Type 0} → (D → DiskFacts) → Opened D → List Library → Type 0
 Lists facts store libraries =
     ((s : State) × IsAt facts store s × (s.libraries ≡ libraries)) ⊎ AreListed store.entries libraries

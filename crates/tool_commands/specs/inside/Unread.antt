@@ -7,13 +7,13 @@ use Rattle.program_parts.specs.declared.status.Status.TheVariants.{Refused, Fail
 use Rattle.tool_parts.specs.Said.{device_line, memory_line}
 use Rattle.tool_commands.specs.Said.{not_installed_line}
 
--- the status if the bytes can't be returned for this reason
+-- the status for bytes that can't be returned for this reason
 abbrev pub unread_status : Unread → Status
 unread_status NotInstalled = Refused
 unread_status Unreadable = Failed
 unread_status OutOfMemory = NoMemory
 
--- the message if the bytes can't be returned for this reason
+-- the message for bytes that can't be returned for this reason
 abbrev pub unread_line : Unread → List ℕ
 unread_line NotInstalled = not_installed_line
 unread_line Unreadable = device_line

@@ -16,20 +16,20 @@ abbrev pub request_with : WithFile → List ℕ → Request
 request_with with.Replace bytes = replace bytes
 request_with (with.Executable base) bytes = bind bytes base
 
--- how the request's disk is opened
+-- the access with which the request's disk is opened
 abbrev pub access_of : WithFile → Access
 access_of with.Replace = Changes
 access_of (with.Executable base) = Reading
 
--- how the request's reply is written
+-- the way in which the request's reply is written
 abbrev pub telling_of : WithFile → Telling
 telling_of with.Replace = telling.Text
 telling_of (with.Executable base) = telling.Executable
 
--- how a request that needs the bytes of a file ends
+-- the end of a request that needs the bytes of a file
 abbrev pub AskEndsWith : WithFile → Streams → Status → Type 0
 AskEndsWith asking io status = ReadEnds (λ bytes. AskEnds (request_with asking bytes) (telling_of asking) io status) io status
 
--- how `bindings` ends if the program is read from a file and bound at the address `base`
+-- the end of `bindings` if the program is read from a file and bound at `base`
 abbrev pub BindingsEndWith : ℕ → Streams → Status → Type 0
 BindingsEndWith base io status = ReadEnds (λ bytes. BindingsAskEnds bytes base io status) io status

@@ -1,4 +1,4 @@
-// Tests which sectors a layout hands out and takes back.
+// Tests the sectors that a layout hands out and takes back.
 
 use extents::{Extent, Layout, MOST_EXTENTS, MOST_SECTORS, TakeRefusal};
 use std::alloc::AllocError;

@@ -137,8 +137,8 @@ fn text_of(alloc: Global, image: &Image) -> Result<Vec<u8>, Fail> {
     Ok(text)
 }
 
-/// Returns three bytes of an image with many segments: the first byte of the first one, the last
-/// byte of the last one, and the byte after that.
+/// Returns three bytes of an image with many segments: the first byte of the first segment, the
+/// last byte of the last segment, and the byte after that.
 fn bytes_of_many(image: &Image) -> [Option<u8>; 3] {
     let last = 0x11000 + 32 * 59_999;
     [

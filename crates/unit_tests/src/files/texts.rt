@@ -60,8 +60,8 @@ fn put_segment(
     buffer.send(out)
 }
 
-/// Puts a segment after the bytes `waiting`. Returns how many bytes at most three writes have
-/// written, whether they begin with `waiting`, and whether they end with the segment's text.
+/// Puts a segment after the bytes `waiting`, with at most three writes. Returns the number of
+/// written bytes, whether they begin with `waiting`, and whether they end with the segment's text.
 fn segment_behind(alloc: Global, waiting: &[u8]) -> Result<(usize, bool, bool), WriteFault> {
     let mut out = writer_of(alloc, 3);
     let mut buffer = OutputBuffer::<64>::new();
@@ -91,7 +91,7 @@ fn a_full_buffer_at_each_place_of_a_line(rt: HostRuntime) -> Result<(), Fail> {
 /// Each row has the length of a name, and the number of writes that the name takes.
 const WRITES: [(usize, usize); 5] = [(0, 1), (1, 1), (240, 1), (LINE / 4, 1), (LINE / 4 + 1, 2)];
 
-/// Returns how many writes a name takes. The writer accepts `room` writes.
+/// Returns the number of writes that a name takes. The writer accepts `room` writes.
 fn writes_of_name(alloc: Global, name: &[u8], room: usize) -> Result<usize, WriteFault> {
     let mut out = writer_of(alloc, room);
     write_name(&mut out, name)?;
@@ -110,7 +110,7 @@ fn a_line_goes_out_with_one_write(rt: HostRuntime) -> Result<(), Fail> {
 }
 
 /// Returns the effects of a writer that accepts `writes` writes: whether each of three calls fails,
-/// and how many bytes and how many calls the writer gets.
+/// and the numbers of bytes and of calls that the writer gets.
 fn failing(alloc: Global, writes: usize) -> ([bool; 3], usize, usize) {
     let mut out = writer_of(alloc, writes);
     let mut buffer = OutputBuffer::<64>::new();
@@ -121,7 +121,7 @@ fn failing(alloc: Global, writes: usize) -> ([bool; 3], usize, usize) {
     ([lines, sent, put], held, out.calls)
 }
 
-// Whichever write fails, the call reports it, and nothing is written to the writer after it.
+// If any write fails, the call reports the failure, and the writer gets nothing more.
 #[test]
 fn a_writer_that_fails_gets_nothing_more(rt: HostRuntime) {
     let alloc = rt.alloc();

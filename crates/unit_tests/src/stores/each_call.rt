@@ -1,6 +1,6 @@
 // Makes each call of a store of either version, and of the sectors with a format, once, by its
-// public path, with ample memory. Some of these calls are made by no other crate here, because they
-// are for programs that only keep byte strings.
+// public path, with ample memory. No other crate here makes some of these calls, because they are
+// for programs that only keep byte strings.
 use crate::stores::disks::{write_entry, write_root};
 use crate::stores::sectors::memory;
 use crate::stores::seen::given;

@@ -1,4 +1,4 @@
--- How an update that has begun ends, on any disk.
+-- The end of an update that has begun, on any disk.
 use Rattle.std.specs.Prelude.{◌≡◌, ◌⊎◌, ◌++◌, ℕ, List, Option, Result}
 use Rattle.std.specs.Io.{StopsAt}
 use Rattle.std.specs.Io.KnownBytes.{Appends}
@@ -23,18 +23,18 @@ use Rattle.updates.specs.declared.answer.UpdateRefusal.{UpdateRefusal}
 
 module _ {D O : Type 0} (facts : D → DiskFacts) (contents : O → Option (List ℕ)) where
   module _ (io : Streams) (lines : List (List ℕ)) (answers : List Reply) (u : Drafted D) (status : Status) (new : Opened D) where
-    -- the planned lines were followed by `commit`
+    -- after the planned lines came `commit`
     abbrev pub IsCommitted : Type 0
     IsCommitted = (held : O) × (answer : Result (Unit {0}) Refusal) × BeginsWith io.unread lines (ended commit_line)
         × Appends io.before (contents held) (plan_texts answers) × Commits facts u answer new
         × TellsOnly (reply_status (answer_of answer)) (plan_texts answers ++ reply_text (answer_of answer)) io status
 
-    -- the lines were followed by a refusal
+    -- after the lines came a refusal
     abbrev pub IsRefused : Type 0
     IsRefused = (refusal : UpdateRefusal) × (last : Drafted D) × IsRefusedAt facts io.unread lines u last refusal × (new ≡ last.store)
         × TellsOnly (update_status refusal) (plan_texts answers ++ update_refusal_text refusal) io status
 
-    -- the lines were followed by a fault
+    -- after the lines came a fault
     abbrev pub IsBroken : Type 0
     IsBroken = (fault : ScriptFault) × (part : List ℕ) × StopsAt part 10 × BeginsWith io.unread lines part × (new ≡ u.store)
         × BreaksOff fault (plan_texts answers) io status

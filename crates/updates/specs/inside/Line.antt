@@ -1,4 +1,4 @@
--- The effects of one line of an update, and how a line ends the update.
+-- The effects of one line of an update, and the ways in which a line ends the update.
 use Rattle.std.specs.Prelude.{◌≡◌, ◌≢◌, ℕ, List, Option, Some, None, false}
 use Rattle.std.specs.Io.KnownBytes.{Appends}
 use Rattle.sector_disk.specs.Disk.{DiskFacts}
@@ -23,9 +23,9 @@ module _ {D : Type 0} (facts : D → DiskFacts) where
   abbrev pub IsAccepted : Drafted D → List ℕ → Reply → Drafted D → Type 0
   IsAccepted old line answer new = LineStep facts old line answer new × (is_refusal answer ≡ false)
 
-  -- The effects of a line's command. `waits` and `now` are the bytes that the writer holds before and
-  -- after the command, each followed by the buffered text. Either the command is answered; or it is
-  -- refused, which ends the update, and then nothing is written.
+  -- The effects of a line's command. `waits` and `now` are the bytes that the writer has before and
+  -- after the command, each followed by the buffered text. The command is answered; or it is
+  -- refused, which ends the update, and nothing is written.
   abbrev pub AskedEnds : Drafted D → Drafted D → Request → Option (List ℕ) → Option (List ℕ) → Option Ending → Type 0
   AskedEnds old new request waits now None = (answer : Reply) × DraftAnswers facts old request answer new × (is_refusal answer ≡ false)
       × Appends waits now (plan_text answer)
@@ -43,15 +43,15 @@ module _ {D : Type 0} (facts : D → DiskFacts) where
   EndsLine old new line (Refused (refusal.Refused why)) = LineStep facts old line (reply.Refused why) new
   EndsLine old new line (Refused other) = ⊥
 
-  -- The effects of one whole line. `waits` and `now` are the bytes that the writer holds before and
-  -- after the line, each followed by the buffered text. Either the line is answered; or it ends the
-  -- update, and then nothing is written.
+  -- The effects of one whole line. `waits` and `now` are the bytes that the writer has before and
+  -- after the line, each followed by the buffered text. The line is answered; or it ends the
+  -- update, and nothing is written.
   abbrev pub LineEnds : Drafted D → Drafted D → List ℕ → Option (List ℕ) → Option (List ℕ) → Option Ending → Type 0
   LineEnds old new line waits now None = (answer : Reply) × IsAccepted old line answer new × Appends waits now (plan_text answer)
   LineEnds old new line waits now (Some ending) = EndsLine old new line ending × (now ≡ waits)
 
   -- The effects of a line that wasn't answered. If the writer failed, the line was accepted before.
-  -- Otherwise memory was refused, and nothing was done.
+  -- Otherwise memory was refused, and the line changed nothing.
   abbrev pub MissesLine : Drafted D → Drafted D → List ℕ → Option (List ℕ) → Option (List ℕ) → ScriptFault → Type 0
   MissesLine old new line waits now Write = (answer : Reply) × IsAccepted old line answer new
   MissesLine old new line waits now fault = (new ≡ old) × (now ≡ waits)

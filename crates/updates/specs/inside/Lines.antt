@@ -1,4 +1,4 @@
--- How the lines of an update end: the bytes that are read, the text that is written, and the draft.
+-- The end of an update's lines: the bytes that were read, the text that was written, and the draft.
 use Rattle.std.specs.Prelude.{◌≡◌, ◌≢◌, ℕ, List, Option}
 use Rattle.std.specs.Io.{StopsAt}
 use Rattle.std.specs.Io.KnownBytes.{Appends}

@@ -50,8 +50,8 @@ fn the_buffers_give_what_a_disk_in_memory_gives(rt: HostRuntime) {
     assert!(rt; small && large);
 }
 
-// Reads a file of 5,000 sectors, and then the file's first 129 sectors once more. If each sector
-// has the content with which it was filled, returns the number of calls of the file.
+// Reads a file of 5,000 sectors, and then the file's first 129 sectors again. If each sector has
+// the content with which it was filled, returns the number of calls of the file.
 fn read_all(alloc: Global, file: Fake) -> Option<u64> {
     let mut disk = reopened(alloc, file)?;
     let mut filled = disk.sectors() == 5_000 && is_filled(&mut disk);
@@ -70,7 +70,7 @@ fn filled(alloc: Global) -> Option<Fake> {
 }
 
 // Fills a file of 5,000 sectors. Returns four numbers: the writes; the writes before the sync; the
-// reads while the file was filled; and the reads that reading the whole file takes afterwards.
+// reads while the file was filled; and the reads of a later pass over the whole file.
 fn fill_and_read(alloc: Global) -> Option<[u64; 4]> {
     let file = filled(alloc)?;
     let [writes, synced, reads] = [file.writes, file.synced, file.reads];

@@ -60,8 +60,8 @@ impl Fake {
         }
     }
 
-    // Begins a read or a write. If the plan says so, the call is interrupted. If it is the failing
-    // call, it fails.
+    // Begins a read or a write. If the plan requests it, interrupts the call. If the call is the
+    // one that fails, lets it fail.
     fn begin(&mut self) -> io::Result<()> {
         self.turn = !self.turn;
         if self.plan.interrupts && self.turn {

@@ -1,7 +1,7 @@
 use Rattle.std.proofs.Common.{◌≡◌, ◌+◌, ◌<◌, ◌++◌, codes, [], ◌∷◌, false, length, length-append, sym, ap, ◌∙◌, subst, append-nil, if◌then◌else◌, arith}
 use Rattle.text_output.specs.Pieces.{EndsWithinLine, GetsFrontPiece}
 use Rattle.text_output.proofs.Pieces.{ends_behind, gets_none}
-use Rattle.text_output.proofs.piece.PieceBuffer.put.Goals.{then-self, else-self, then-room-text+in_ok-give, else-room-text}
+use Rattle.text_output.proofs.piece.PieceBuffer.put.Goals.{then-self, else-self, then-room-text+in_ok-write_piece, else-room-text}
 use Rattle.text_output.proofs.piece.PieceBuffer.put.Goals as goal
 
 pub returns-then-is_empty-clause-piece : goal.returns-then-is_empty-clause-piece
@@ -11,7 +11,7 @@ pub invariant_of-self-2 : goal.invariant_of-self-2
 invariant_of-self-2 g c =
     let room : length c.if-room-text.self-inside.piece.waiting + 1 + length c.args.text.now < 4096 =
     elim c.if-room-text.branch [
-      | then-room-text+in_ok-give w ↦ omega (arith, ap (λ s. length s.piece.waiting) w.self-inside-is, ap (λ p. length p.waiting) w.in_ok-give.ensures.given)
+      | then-room-text+in_ok-write_piece w ↦ omega (arith, ap (λ s. length s.piece.waiting) w.self-inside-is, ap (λ p. length p.waiting) w.in_ok-write_piece.ensures.given)
       | else-room-text w ↦ omega (arith, ap (λ s. length s.piece.waiting) w.self-inside-is)
     ] in
     let ended : length c.if-self.self-inside.piece.waiting + length c.args.text.now < 4096 =
@@ -26,8 +26,8 @@ invariant_of-self-2 g c =
 
 pub returns-clause-piece : goal.returns-clause-piece
 returns-clause-piece g c = elim c.if-room-text.branch [
-  | then-room-text+in_ok-give w ↦ subst (GetsFrontPiece (g.W.Write.contents c.args.out.now)) (ap g.W.Write.contents (sym w.out-is))
-      (c.self.inside.piece.waiting, record { size = omega (arith, c.self.invariant.1); within = c.self.invariant.0 }, w.in_ok-give.ensures.ok)
+  | then-room-text+in_ok-write_piece w ↦ subst (GetsFrontPiece (g.W.Write.contents c.args.out.now)) (ap g.W.Write.contents (sym w.out-is))
+      (c.self.inside.piece.waiting, record { size = omega (arith, c.self.invariant.1); within = c.self.invariant.0 }, w.in_ok-write_piece.ensures.ok)
   | else-room-text w ↦ subst (GetsFrontPiece (g.W.Write.contents c.args.out.now)) (ap g.W.Write.contents (sym w.out-is)) (gets_none (g.W.Write.contents c.args.out.now))
 ]
 

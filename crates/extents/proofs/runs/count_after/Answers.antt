@@ -1,6 +1,6 @@
 use Rattle.std.proofs.Common.{◌<◌, length, ap, ◌∙◌, arith}
 use Rattle.std.proofs.lemmas.List.{get_or_default}
-use Rattle.extents.proofs.runs.count_behind.Goals as goal
+use Rattle.extents.proofs.runs.count_after.Goals as goal
 use Rattle.extents.proofs.Edits.{nothing}
 
 pub returns-then-run-sector-clause-some : goal.returns-then-run-sector-clause-some

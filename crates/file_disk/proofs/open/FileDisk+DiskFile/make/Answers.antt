@@ -1,0 +1,10 @@
+use Rattle.std.proofs.Common.{◌<◌, ◌^◌, arith}
+use Rattle.std.proofs.lemmas.Result.{err_from_is_err_and}
+use Rattle.file_disk.proofs.Lengths.{other_length}
+use Rattle.file_disk.proofs.open.FileDisk+DiskFile.make.Goals as goal
+
+pub returns-in_err-disk-clause-length : goal.returns-in_err-disk-clause-length
+returns-in_err-disk-clause-length g c =
+    let below : c.args.sectors < 2 ^ 32 = omega arith in
+    let p = err_from_is_err_and c.from_residual.result c.from_residual.ensures.1 in
+    rw (p.1, p.2) (other_length _ _ below c.in_err-disk.ensures)
