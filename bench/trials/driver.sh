@@ -94,7 +94,7 @@ if [ -d "$cxx" ]; then
         to=$EPOCHREALTIME
         echo $(((${to/./} - ${from/./}) / 200))
     }
-    mkdir images
+    mkdir -m 700 images
     rlibreg-tool executable disk throws 0x10000000 > alone
     chmod +x alone
     echo "a start, in microseconds: by rlibreg-run $(starts rlibreg-run disk ./throws 0)," \

@@ -11,7 +11,9 @@ int fall(int depth);
 #ifdef LIBRARY
 __attribute__((noinline)) int fall(int depth) {
     if (!depth) throw std::runtime_error("fallen");
-    return fall(depth - 1) + depth;
+    int below = fall(depth - 1);
+    asm volatile("" : "+r"(below)); /* no loop instead of the calls */
+    return below + depth;
 }
 #else
 static int caught(int depth) {

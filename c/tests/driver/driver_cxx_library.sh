@@ -31,10 +31,12 @@ starts() {
     "$built/rlibreg-tool" executable disk program 0x10000000 > alone
     chmod +x alone
     want "$1: an executable" "$wanted" "$(ended ./alone)"
-    mkdir -p images
+    rm -rf images
+    mkdir -m 700 images
     for time in first second; do
         want "$1: a kept image, the $time time" "$wanted" "$(ended "$built/rlibreg-run" -c images disk ./program)"
     done
+    want "$1: the number of kept images" 1 "$(ls images | wc -l)"
 }
 for linker in $linkers; do
     for words in -O2 '-O0 -g' '-O2 -flto'; do
