@@ -86,14 +86,18 @@ make_unwinder() {
     cp "$("$compiler" -print-file-name=libgcc_eh.a)" "$room/unwinder/all.a"
     chmod u+w "$room/unwinder/all.a"
     ar dD "$room/unwinder/all.a" emutls.o
-    nm -g --defined-only "$room/unwinder/all.a" | sed -n 's/^[0-9a-f]* T //p' | sort -u > "$room/unwinder/names"
+    nm -g --defined-only "$room/unwinder/all.a" 2> "$room/unwinder/told" |
+        sed -n 's/^[0-9a-f]* T //p' | sort -u > "$room/unwinder/names"
     sed 's/.*/& rlibreg_&/' "$room/unwinder/names" > "$room/unwinder/renamed"
     objcopy -D --redefine-syms="$room/unwinder/renamed" "$room/unwinder/all.a" "$1"
     while read -r name; do
         printf '\t.globl %s\n\t.type %s, @function\n%s:\n\t.cfi_startproc\n' "$name" "$name" "$name"
         printf '\tendbr64\n\tjmp rlibreg_%s\n\t.cfi_endproc\n\t.size %s, .-%s\n' "$name" "$name" "$name"
     done < "$room/unwinder/names" > "$room/unwinder/rlibreg_names.s"
-    echo '	.section .note.GNU-stack,"",@progbits' >> "$room/unwinder/rlibreg_names.s"
+    # The unwinder has weak references to these functions, which take nothing out of musl's libc.a.
+    printf '\t.section %s\n' '.data.rel.ro,"aw"' >> "$room/unwinder/rlibreg_names.s"
+    printf '\t.quad pthread_once, __pthread_key_create\n' >> "$room/unwinder/rlibreg_names.s"
+    printf '\t.section %s\n' '.note.GNU-stack,"",@progbits' >> "$room/unwinder/rlibreg_names.s"
     "$compiler" -c -o "$room/unwinder/rlibreg_names.o" "$room/unwinder/rlibreg_names.s"
     ar rD "$1" "$room/unwinder/rlibreg_names.o"
 }

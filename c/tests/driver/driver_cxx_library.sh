@@ -33,10 +33,14 @@ starts() {
     want "$1: an executable" "$wanted" "$(ended ./alone)"
     rm -rf images
     mkdir -m 700 images
-    for time in first second; do
-        want "$1: a kept image, the $time time" "$wanted" "$(ended "$built/rlibreg-run" -c images disk ./program)"
+    # An image isn't kept just after a change of the disk.
+    for ((at = 0; at < 100; at++)); do
+        want "$1: before an image is kept" "$wanted" "$(ended "$built/rlibreg-run" -c images disk ./program)"
+        [ -z "$(ls images)" ] || break
+        sleep 0.1
     done
     want "$1: the number of kept images" 1 "$(ls images | wc -l)"
+    want "$1: a kept image" "$wanted" "$(ended "$built/rlibreg-run" -c images disk ./program)"
 }
 for linker in $linkers; do
     for words in -O2 '-O0 -g' '-O2 -flto'; do
@@ -65,7 +69,7 @@ $gcc -o calls calls.c libcaught.so
 want 'what a program of C needs' 'libcaught.so ' "$(needs calls)"
 want 'a program of C' '= 5' "$(ended "$built/rlibreg-run" disk ./calls)"
 echo 'int main() { return 6; }' > six.cc
-for linker in $linkers; do
+for linker in ${linkers/gold/}; do # gold takes a library for needed if musl has functions for it
     $plus -fuse-ld=$linker -o six six.cc
     want "$linker: what a program needs that needs nothing" '' "$(needs six)"
 done
@@ -97,7 +101,7 @@ int main(int count, char **) {
     } catch (int it) {
         std::printf("through %d\n", it);
     }
-    std::set_terminate([] { std::puts("terminated"); std::_Exit(9); });
+    std::set_terminate([] { std::puts("terminated"); std::exit(9); });
     int of[] = {2, 1};
     if (count > 1) std::qsort(of, 2, sizeof *of, [](const void *, const void *) -> int { throw 1; });
     return 3;
