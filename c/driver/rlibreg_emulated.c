@@ -24,9 +24,7 @@ enum { PIECE = 16384 };
  * for the first time. */
 struct control {
     size_t size, alignment, number;
-    const void *first; /* Locks a file. Returns 0, or -1 with errno. The system's udev locks a
-                        * device for a moment after each writer has closed it. For this reason, a
-                        * change to a device retries for a moment, even without RLIBREG_WAIT. */
+    const void *first; /* the bytes of a new copy, or null for zeros */
 };
 
 /* Mapped memory. Each piece begins with this structure. */

@@ -182,10 +182,10 @@ struct keeping {
     /* Prints `what` or, if it is null, the text of `error`. The pointer is null until the C library
      * is set up. */
     void (*say)(const struct keeping *it, const char *what, int error);
-    uid_t user;       /* descriptor of the folder, or -1 if images aren't kept there */
+    uid_t user;       /* effective user id */
     int folder;       /* descriptor of the folder; -1 if images aren't kept there */
     int is_for_all;   /* whether every user may read the folder, the disk and the program */
-    int may_keep;     /* descriptor of an image's file that is complete but has no name yet, or 0 */
+    int may_keep;     /* whether an image that is bound now may be kept */
     int file;         /* descriptor of an image's file that is whole and has no name yet, or 0 */
     void *beginning;  /* beginning of that file, or null */
     struct sources sources; /* sources of the image, if the disk is compared */

@@ -41,7 +41,7 @@ void read_program(struct program *it) {
     }
 }
 
-/* Reads the file into memory, so that nobody can shorten or change it while the loader uses it. */
+/* ---- Headers */
 
 static Elf64_Ehdr file_header(const struct program *it) {
     Elf64_Ehdr header = { 0 };
