@@ -70,8 +70,8 @@ configure_and_make() {
     cd "$room/build"
     "$room/source/libstdc++-v3/configure" --build=x86_64-linux-gnu --host=x86_64-linux-musl \
         --prefix="$room/made" --disable-multilib --disable-nls --disable-tls --disable-symvers \
-        --disable-libstdcxx-pch --enable-libstdcxx-filesystem-ts=no --disable-shared --enable-static --with-pic CC="$room/for_c" \
-        CXX="$room/for_plus" AR=ar RANLIB=ranlib AS=as LD=ld NM=nm STRIP=strip CFLAGS=-O2 CXXFLAGS=-O2
+        --disable-libstdcxx-pch --enable-libstdcxx-filesystem-ts=no --disable-shared --enable-static \
+        --with-pic CC="$room/for_c" CXX="$room/for_plus" AR=ar RANLIB=ranlib AS=as LD=ld NM=nm STRIP=strip CFLAGS=-O2 CXXFLAGS=-O2
     make -j"${JOBS:-1}"
     make install
 }

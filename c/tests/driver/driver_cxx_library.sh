@@ -4,7 +4,11 @@ mkdir cxx
 cd cxx
 cp "$programs"/driver_cxx* .
 defined=
-if [ -f "$plugin" ]; then defined=-DHAS_THREAD_LOCAL; else echo 'left out: thread_local of C++, for want of the plugin'; fi
+if [ -f "$plugin" ]; then
+    defined=-DHAS_THREAD_LOCAL
+else
+    echo 'left out: thread_local of C++, for want of the plugin'
+fi
 wanted="$(cat driver_cxx.txt)
 = 0"
 # installed DISK FILE..: installs or replaces libraries.

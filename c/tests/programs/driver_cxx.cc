@@ -114,7 +114,8 @@ static void texts() {
     std::smatch found;
     const std::string text = "libone.so.12 and libtwo.so.3";
     std::regex_search(text, found, std::regex(R"((\w+)\.so\.(\d+)$)"));
-    std::cout << found[1] << " " << found[2] << " " << std::regex_replace(text, std::regex("lib(.)"), "$1_") << "\n";
+    std::cout << found[1] << " " << found[2] << " "
+              << std::regex_replace(text, std::regex("lib(.)"), "$1_") << "\n";
     std::ostringstream out;
     out << std::hex << 255 << " " << std::fixed << 1.5 << " " << std::boolalpha << true;
     double number = 0;
