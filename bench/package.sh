@@ -5,7 +5,8 @@
 # in a bare Debian of each RELEASE, such as bookworm or trixie, runs its programs, and removes it.
 #
 # If c/plugin.sh has put gcc's plugin into BUILT, the plugin gets a package of its own, because it has
-# another license. For gcc 12 this is rlibreg-gcc-12.
+# another license. For gcc 12 this is rlibreg-gcc-12. If c/cxx.sh has put C++'s standard library into BUILT,
+# it gets a package of its own too, for gcc 12 rlibreg-g++-12.
 #
 # The script needs dpkg-dev, and pandoc for manual pages. The package's maintainer is DEBFULLNAME with DEBEMAIL or,
 # without these, the last commit's author. With a RELEASE it needs root and debootstrap, and loads some 50 MB from a
@@ -50,7 +51,7 @@ tree() {
     DESTDIR=$1 PYTHONDIR=/usr/lib/python3/dist-packages c/install.sh /usr "$built" > "$room/said"
     grep '^left out' "$room/said" > "$room/left_out" || true
     mv "$1/usr/share/rlibreg/installed" "$room/installed" # dpkg has a list of its own
-    rm -f "$1"/usr/lib/rlibreg/rlibreg_tls-*.so           # another package has it
+    rm -rf "$1"/usr/lib/rlibreg/rlibreg_{tls,cxx}-*       # other packages have them
     strip --strip-unneeded "$1"/usr/bin/rlibreg{,-tool} "$1"/usr/lib/librlibreg.so.*.*.*
     strip --strip-debug --enable-deterministic-archives "$1/usr/lib/librlibreg.a"
     cp c/install/debian/copyright "$doc/copyright"
@@ -93,6 +94,29 @@ plugin_control() {
         c/install/debian/plugin-control > "$1/DEBIAN/control"
 }
 
+# cxx_tree FOLDER: puts into FOLDER what the package of C++'s standard library installs.
+cxx_tree() {
+    local doc=$1/usr/share/doc/rlibreg-g++-$gcc it=$1/usr/lib/rlibreg/${cxx##*/}
+    install -d "$1/usr/lib/rlibreg" "$doc"
+    cp -R "$cxx" "$it"
+    { sed "s/@GCC@/$gcc/g" c/install/debian/cxx-copyright && cat "$it/COPYING.RUNTIME"; } > "$doc/copyright"
+    rm "$it"/COPYING*
+    chmod -R u=rwX,go=rX "$it"
+    changelog | sed "1s/^rlibreg /rlibreg-g++-$gcc /" | gzip -9n > "$doc/changelog.gz"
+}
+
+# cxx_control FOLDER: writes the files that dpkg reads about the package of C++'s standard library.
+cxx_control() {
+    local release=${cxx##*/rlibreg_cxx-} using size
+    size=$(du -sk --apparent-size "$1" | cut -f1)
+    using=$(dpkg-query -W -f '${source:Package} (= ${source:Version})' "gcc-$gcc-source"
+        dpkg-query -W -f ', ${source:Package} (= ${source:Version})' musl-dev)
+    mkdir "$1/DEBIAN"
+    sed "s|@VERSION@|$version|g; s|@WHO@|$who|; s|@GCC@|$gcc|g; s|@RELEASE@|$release|; s|@USING@|$using|
+        s|@SIZE@|$size|; s|@NEXT@|${release%.*}.$((${release##*.} + 1))~|" \
+        c/install/debian/cxx-control > "$1/DEBIAN/control"
+}
+
 # make FILE KIND: makes the package, by the functions KINDtree and KINDcontrol.
 make() {
     rm -rf "$room/tree"
@@ -119,7 +143,8 @@ tested() {
 # whole FILE: checks that the package has each file that install.sh has listed, and otherwise ends the
 # script. Manual pages are compressed.
 whole() {
-    sed '/^#/d; /\/$/d; \|/share/rlibreg/installed$|d; \|/rlibreg_tls-[^/]*$|d; s|/man/man[13]/.*|&.gz|' \
+    sed '/^#/d; /\/$/d; \|/share/rlibreg/installed$|d; \|/rlibreg_tls-[^/]*$|d
+        \|/rlibreg_cxx-|d; s|/man/man[13]/.*|&.gz|' \
         "$room/installed" | sort > "$room/listed"
     dpkg-deb --fsys-tarfile "$1" | tar -t | sed 's/^\.//' | sort > "$room/packed"
     comm -23 "$room/listed" "$room/packed" > "$room/missing"
@@ -189,6 +214,14 @@ if [ -n "$plugin" ]; then
     echo "$folder/rlibreg-gcc-${gcc}_${version}_amd64.deb"
 else
     echo "left out: the package of gcc's plugin, which c/plugin.sh makes"
+fi
+cxx=$(compgen -G "$built/rlibreg_cxx-*" | sort -V | tail -n 1 || true)
+if [ -n "$cxx" ]; then
+    gcc=${cxx##*/rlibreg_cxx-} gcc=${gcc%%.*}
+    tested "$folder/rlibreg-g++-${gcc}_${version}_amd64.deb" cxx_
+    echo "$folder/rlibreg-g++-${gcc}_${version}_amd64.deb"
+else
+    echo "left out: the package of C++'s standard library, which c/cxx.sh makes"
 fi
 for release; do try "$release"; done
 echo "$package"

@@ -159,21 +159,37 @@ soname=librlibreg.so.${version%.*}
         $cc $of_program -Os -fno-asynchronous-unwind-tables -c -o "$folder/begins_$part.o" \
             "c/driver/rlibreg_$part.c"
     done
-    for part in emulated dl; do
+    for part in emulated dl unwind each; do
         $cc $of_program -c -o "$folder/begins_$part.o" "c/driver/rlibreg_$part.c"
     done
     cd "$folder"
     ld -r -o rlibreg_begin.o begins_{begin,begin_calls,objects}.o
-    for part in dl objects emulated; do
+    for part in dl objects emulated each; do
         rm -f rlibreg_$part.a
         ar rcsD rlibreg_$part.a begins_$part.o
     done
+    ar rcsD rlibreg_dl.a begins_unwind.o
     rm begins_*.o
 )
 sed "s|@VERSION@|$version|" c/driver/rlibreg-gcc > "$folder/rlibreg-gcc"
 chmod +x "$folder/rlibreg-gcc"
-cp c/driver/rlibreg{-ld,.specs,_plus.specs,_plus.cc,_versions.awk,_words.awk} "$folder/"
+cp c/driver/rlibreg{-ld,.specs,_plus.specs,_cxx.specs,_plus.cc,_versions.awk,_words.awk} "$folder/"
 ln -sf rlibreg-gcc "$folder/rlibreg-g++"
+# The headers of C++'s standard library, each of which says that the library isn't installed. The header
+# `version` isn't among them, because programs ask whether it exists.
+mkdir -p "$folder/rlibreg_plus"
+cp c/driver/rlibreg_absent.h "$folder/rlibreg_plus/"
+for name in algorithm any array atomic barrier bit bitset charconv chrono codecvt compare complex concepts \
+    condition_variable coroutine deque exception execution expected filesystem format forward_list fstream \
+    functional future initializer_list iomanip ios iosfwd iostream istream iterator latch limits list locale \
+    map memory memory_resource mutex new numbers numeric optional ostream queue random ranges ratio regex \
+    scoped_allocator semaphore set shared_mutex source_location span sstream stack stacktrace stdexcept \
+    stop_token streambuf string string_view syncstream system_error thread tuple type_traits typeindex \
+    typeinfo unordered_map unordered_set utility valarray variant vector \
+    c{assert,ctype,errno,fenv,float,inttypes,limits,locale,math,setjmp,signal,stdarg,stddef} \
+    c{stdint,stdio,stdlib,string,time,uchar,wchar,wctype}; do
+    ln -sfn rlibreg_absent.h "$folder/rlibreg_plus/$name"
+done
 mkdir -p "$folder/rlibreg_kernel"
 for name in asm asm-generic cxl drm fwctl linux misc mtd rdma regulator scsi sound video xen; do
     for headers in /usr/include/{,"$($cc -print-multiarch)/"}$name; do

@@ -72,16 +72,18 @@ add_all() {
     add link rlibreg-gcc "$1/bin/rlibreg-g++"
     add 755 "$here/programs/rlibreg-switch" "$1/bin/rlibreg-switch"
     add 755 "$2/rlibreg-ld" "$1/lib/rlibreg/rlibreg-ld"
-    for name in rlibreg{,_plus}.specs rlibreg_begin.o rlibreg_{dl,objects,emulated}.a rlibreg_plus.cc \
+    for name in rlibreg{,_plus,_cxx}.specs rlibreg_begin.o rlibreg_{dl,objects,emulated,each}.a rlibreg_plus.cc \
         rlibreg_{versions,words}.awk; do
         add 644 "$2/$name" "$1/lib/rlibreg/$name"
     done
     for name in "$2"/rlibreg_tls-*.so; do
         [ ! -f "$name" ] || add 644 "$name" "$1/lib/rlibreg/${name##*/}"
     done
-    for name in "$2"/rlibreg_kernel/*; do
-        [ ! -L "$name" ] || add link "$(readlink "$name")" "$1/lib/rlibreg/rlibreg_kernel/${name##*/}"
+    add 644 "$2/rlibreg_plus/rlibreg_absent.h" "$1/lib/rlibreg/rlibreg_plus/rlibreg_absent.h"
+    for name in "$2"/rlibreg_{kernel,plus}/*; do
+        [ ! -L "$name" ] || add link "$(readlink "$name")" "$1/lib/rlibreg/${name#"$2/"}"
     done
+    add_cxx "$@"
     add 644 "$2/rlibreg.h" "$1/include/rlibreg.h"
     add 644 "$2/librlibreg.a" "$1/lib/librlibreg.a"
     add 644 "$2/$shared.$version" "$1/lib/$shared.$version"
@@ -112,6 +114,18 @@ add_all() {
     done
     for page in "$3"/*.[13]; do
         [ ! -f "$page" ] || add 644 "$page" "$1/share/man/man${page##*.}/${page##*/}"
+    done
+}
+
+# add_cxx PREFIX FOLDER ROOM: adds the files of C++'s standard library, if cxx.sh has made it.
+add_cxx() {
+    local name
+    for name in "$2"/rlibreg_cxx-*; do
+        [ -d "$name" ] || break
+        find "$name" -type f | sort > "$3/cxx"
+        while IFS= read -r name; do
+            add 644 "$name" "$1/lib/rlibreg/${name#"$2/"}"
+        done < "$3/cxx"
     done
 }
 

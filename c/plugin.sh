@@ -4,8 +4,8 @@
 # COMPILER. The build needs g++ and the headers for plugins of that gcc. For gcc 12 they are in Debian's
 # gcc-12-plugin-dev.
 set -eu
-cd "$(dirname "$0")"
-folder=${1:-out}
+here=$(cd "$(dirname "$0")" && pwd)
+folder=${1:-$here/out}
 compiler=${COMPILER:-$(sed -n 's/.*REALGCC:-\([^}]*\)}.*/\1/p' "$(command -v musl-gcc)")}
 compiler=${compiler:-gcc}
 headers=$("$compiler" -print-file-name=plugin)/include
@@ -15,6 +15,6 @@ if [ ! -f "$headers/gcc-plugin.h" ]; then
 fi
 plugin=$folder/rlibreg_tls-$("$compiler" -dumpfullversion).so
 g++ -std=c++11 -O2 -fPIC -fno-rtti -fno-exceptions -Wall -Wextra -shared -s -isystem "$headers" \
-    -o "$plugin.new" driver/rlibreg_tls.cc
+    -o "$plugin.new" "$here/driver/rlibreg_tls.cc"
 mv "$plugin.new" "$plugin"
 echo "built $plugin"

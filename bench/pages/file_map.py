@@ -44,6 +44,8 @@ PLAIN = {
     'c/install/debian/copyright': 'the licence of the package',
     'c/install/debian/plugin-control': "the same of the package of gcc's plugin",
     'c/install/debian/plugin-copyright': "the licence of gcc's plugin",
+    'c/install/debian/cxx-control': "the same of the package of C++'s standard library",
+    'c/install/debian/cxx-copyright': "the licence of C++'s standard library",
     'c/install/debian/postinst': 'what the package does after it is installed',
     'c/install/debian/prerm': 'what the package does before it is removed',
     'c/install/debian/triggers': 'what the system does after an installation: it updates its list of libraries and its initramfs',

@@ -1,11 +1,11 @@
 #!/usr/bin/env bash
 # driver.sh BUILT  tries rlibreg-gcc of BUILT (c/build.sh) with everything that the gate may lack: gcc's plugin
-# for thread-local data, which it makes, and trees of folders by libtool and meson. It prints the time of an
-# access to thread-local data. If this machine lacks something, the part that needs it is left out, and a line
-# reports this.
+# for thread-local data and C++'s standard library, which it makes, and trees of folders by libtool and meson.
+# It prints what an access to thread-local data costs, and what an exception and a start of a program of C++
+# cost. If this machine lacks something, the part that needs it is left out, and a line reports this.
 #
-# The script needs musl-tools, g++, and gcc-12-plugin-dev for gcc 12; and automake, libtool and
-# meson.
+# The script needs musl-tools, g++, and for gcc 12 gcc-12-plugin-dev and gcc-12-source; and automake, libtool
+# and meson. It uses C++'s library of BUILT, if c/cxx.sh has made it there.
 set -eu
 cd "$(dirname "$0")/../.."
 here=$PWD/c/tests bench=$PWD/bench musl=
@@ -15,6 +15,11 @@ built=$room/built objects=$room/objects
 cp -a "$1" "$built"
 mkdir "$objects" "$room/tests"
 c/plugin.sh "$built"
+version=$(gcc -dumpfullversion)
+cxx=$built/rlibreg_cxx-$version
+if [ ! -d "$cxx" ] && compgen -G "/usr/src/gcc-*/gcc-$version*.tar.xz" > "$room/told"; then
+    JOBS=${JOBS:-$(nproc)} c/cxx.sh "$built"
+fi
 . "$here/want.sh"
 
 # The tests of the driver, with the plugin.
@@ -69,3 +74,32 @@ rlibreg-gcc -O2 -o accesses "$bench/trials/accesses.c"
 echo "emulated, in nanoseconds: $(rlibreg-run disk ./accesses)"
 musl-gcc -O2 -static -o accesses "$bench/trials/accesses.c"
 echo "not emulated: $(./accesses)"
+
+# The cost of an exception, in the program and through libraries, and of a start.
+if [ -d "$cxx" ]; then
+    rm -f disk
+    rlibreg format disk 16384 > told
+    rlibreg install disk "$cxx/libstdc++-rlibreg.so.6"
+    rlibreg-g++ -O2 -DLIBRARY -shared -o libthrows.so "$bench/trials/throws.cc"
+    rlibreg install disk libthrows.so
+    rlibreg-g++ -O2 -o throws "$bench/trials/throws.cc" libthrows.so
+    echo "exceptions, in nanoseconds: $(rlibreg-run disk ./throws)"
+    g++ -O2 -DLIBRARY -fPIC -shared -o libthrows.so "$bench/trials/throws.cc"
+    g++ -O2 -o throws_here "$bench/trials/throws.cc" -L. -lthrows
+    echo "of the system's C++: $(LD_LIBRARY_PATH=. ./throws_here)"
+    # starts WORD..: prints how many microseconds a start takes, of 200.
+    starts() {
+        local from=$EPOCHREALTIME at to
+        for ((at = 0; at < 200; at++)); do "$@" > told; done
+        to=$EPOCHREALTIME
+        echo $(((${to/./} - ${from/./}) / 200))
+    }
+    mkdir -m 700 images
+    rlibreg-tool executable disk throws 0x10000000 > alone
+    chmod +x alone
+    echo "a start, in microseconds: by rlibreg-run $(starts rlibreg-run disk ./throws 0)," \
+        "with -c $(starts rlibreg-run -c images disk ./throws 0), as an executable $(starts ./alone 0)," \
+        "of the system's C++ $(LD_LIBRARY_PATH=. starts ./throws_here 0)"
+else
+    echo "left out: C++'s standard library, which c/cxx.sh makes"
+fi

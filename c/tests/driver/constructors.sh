@@ -133,9 +133,9 @@ done
 
 # Static objects in C++.
 if command -v g++ > told; then
-    rlibreg-g++ -shared -o libbase.so driver_base.cc
-    rlibreg-g++ -shared -o libderived.so driver_derived.cc libbase.so
-    rlibreg-g++ -o shapes driver_shapes.cc libderived.so libbase.so
+    rlibreg-g++ -nostdlib++ -shared -o libbase.so driver_base.cc
+    rlibreg-g++ -nostdlib++ -shared -o libderived.so driver_derived.cc libbase.so
+    rlibreg-g++ -nostdlib++ -o shapes driver_shapes.cc libderived.so libbase.so
     for name in base derived; do "$built/rlibreg" install disk lib$name.so > told; done
     says 'C++' "$(cat driver_shapes.txt)
 = 0" shapes

@@ -189,20 +189,23 @@ want 'as an executable' 'one 1 two 2
 . "$here/driver/driver_threads.sh"
 . "$here/driver/driver_opening.sh"
 
-# C++: two libraries with an object each, virtual destructors, statics of functions, new and delete.
+# C++ without its library: two libraries with an object each, virtual destructors, statics of functions,
+# new and delete.
 if command -v g++ > /dev/null; then
-    rlibreg-g++ -shared -o libbase.so driver_base.cc
-    rlibreg-g++ -shared -o libderived.so driver_derived.cc libbase.so
-    rlibreg-g++ -o shapes driver_shapes.cc libderived.so libbase.so
+    words=-nostdlib++
+    rlibreg-g++ $words -shared -o libbase.so driver_base.cc
+    rlibreg-g++ $words -shared -o libderived.so driver_derived.cc libbase.so
+    rlibreg-g++ $words -o shapes driver_shapes.cc libderived.so libbase.so
     for name in base derived; do "$built/rlibreg" install disk lib$name.so > /dev/null; done
     want 'C++' "$(cat "$programs/driver_shapes.txt")
 = 0" "$(ended "$built/rlibreg-run" disk ./shapes)"
-    rlibreg-g++ -Wall -Wextra -Werror -o new driver_new.cc
+    rlibreg-g++ $words -Wall -Wextra -Werror -o new driver_new.cc
     want 'new and delete' 'wrong: 0
 = 0' "$(ended "$built/rlibreg-run" disk ./new)"
     for block in 0 1 2 3 4 5 6 7 8 9; do
         want "an impossible block, $block" '= 134' "$(ended "$built/rlibreg-run" disk ./new $block)"
     done
+    . "$here/driver/driver_cxx.sh"
 else
     echo 'skipped: rlibreg-g++, for want of g++'
 fi

@@ -77,7 +77,7 @@ int main() {
     return printf("%d %d %d %ld\n", one.own, other.own, twice(4), twice(5l)) < 0;
 }
 END_OF_FILE
-    rlibreg-g++ -O1 -o number number.cc
+    rlibreg-g++ -nostdlib++ -O1 -o number number.cc
     want 'C++' '41 42 8 6
 = 0' "$(ended "$built/rlibreg-run" thread.disk ./number)"
 fi

@@ -17,8 +17,8 @@ makes() {
     rm -r made
 }
 # The driver's own texts.
-want '--version' "$(gcc --version | tail -n +2)
-rlibreg-gcc $("$here/../version.sh")" "$($gcc --version | tail -n +2)"
+want '--version' "$(gcc --version | tail -n +2
+    echo "rlibreg-gcc $("$here/../version.sh")")" "$($gcc --version | tail -n +2)"
 want '--help' "Usage: rlibreg-gcc [options] file..." "$($gcc --help | head -n 1)"
 echo 'int one(void) { return 1; }' > plain.c
 echo '#define ONE 1' > plain.h
