@@ -48,6 +48,7 @@ depends() {
 tree() {
     local page doc=$1/usr/share/doc/rlibreg
     DESTDIR=$1 PYTHONDIR=/usr/lib/python3/dist-packages c/install.sh /usr "$built" > "$room/said"
+    grep '^left out' "$room/said" > "$room/left_out" || true
     mv "$1/usr/share/rlibreg/installed" "$room/installed" # dpkg has a list of its own
     rm -f "$1"/usr/lib/rlibreg/rlibreg_tls-*.so           # another package has it
     strip --strip-unneeded "$1"/usr/bin/rlibreg{,-tool} "$1"/usr/lib/librlibreg.so.*.*.*
@@ -179,6 +180,7 @@ try() {
 }
 
 tested "$package" ''
+cat "$room/left_out"
 whole "$package"
 plugin=$(compgen -G "$built/rlibreg_tls-*.so" | sort -V | tail -n 1 || true)
 if [ -n "$plugin" ]; then

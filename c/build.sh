@@ -108,7 +108,8 @@ rm "$folder/early.o" "$folder/filled.ld"
 
 # program NAME STREAM MESSAGE OBJECT CRATE WORD..: links a program, with the calls of the system that its
 # language lacks. OBJECT is the object that `rt run` links; if it is empty, a run of `rt run` with the
-# words makes the object. STREAM and MESSAGE are as for `linked`.
+# words makes the object. STREAM and MESSAGE are as for `linked`. `words` has what is linked besides.
+words=()
 program() {
     local name=$1 stream=$2 message=$3 object=$4 crate=$5
     shift 5
@@ -119,11 +120,13 @@ program() {
     linked 4 "$stream" "$message" "$name" \
         -Wl,--gc-sections,--wrap=open,--wrap=pwrite,--wrap=fsync,--wrap=flock,--wrap=main \
         c/programs/rlibreg_{main,program_lock,program_sync}.c c/library/rlibreg_{front,names,turn}.c \
-        "$object" "$kit/c/libos_c.a" "$kit/c/liblibc_c.a" -lm
+        ${words[@]+"${words[@]}"} "$object" "$kit/c/libos_c.a" "$kit/c/liblibc_c.a" -lm
 }
 # A refusal of a command goes to standard output, and a refusal of the tool to standard error.
 refusal='refused S11 OutOfMemory'
 program rlibreg 1 "$refusal" "${RLIBREG_O:-}" rlibreg image data/minimal.so 0x10000
+words=(-DTOOL -DVERSION="\"$(c/version.sh)\"" c/programs/rlibreg_tool_{words,output}.c c/library/rlibreg_streams.c
+    -Wl,--wrap=rattle_arg,--wrap=rattle_arg_count)
 program rlibreg-tool 2 "rlibreg-tool: $refusal" "${RLIBREG_TOOL_O:-}" rlibreg_tool info data/disk
 
 # The shared library exports what the header declares, and no other name.
@@ -167,7 +170,9 @@ soname=librlibreg.so.${version%.*}
     done
     rm begins_*.o
 )
-cp c/driver/rlibreg{-gcc,-ld,.specs,_plus.specs,_plus.cc,_versions.awk,_words.awk} "$folder/"
+sed "s|@VERSION@|$version|" c/driver/rlibreg-gcc > "$folder/rlibreg-gcc"
+chmod +x "$folder/rlibreg-gcc"
+cp c/driver/rlibreg{-ld,.specs,_plus.specs,_plus.cc,_versions.awk,_words.awk} "$folder/"
 ln -sf rlibreg-gcc "$folder/rlibreg-g++"
 mkdir -p "$folder/rlibreg_kernel"
 for name in asm asm-generic cxl drm fwctl linux misc mtd rdma regulator scsi sound video xen; do

@@ -48,8 +48,8 @@ print(next(it for it in site.getsitepackages() if it.startswith(sys.argv[1] + "/
         2> /dev/null || echo "$1/share/rlibreg"
 }
 
-# make_files PREFIX ROOM: makes the files that contain PREFIX or the version, and the manual pages. In a
-# unit, `%%` means `%`.
+# make_files PREFIX ROOM: makes the files that contain PREFIX or the version; the README, which is
+# installed into the folder of the pages; and the manual pages. In a unit, `%%` means `%`.
 make_files() {
     local file prefix
     sed "s|@PREFIX@|$1|; s|@VERSION@|$version|" "$here/install/rlibreg.pc.in" > "$2/rlibreg.pc"
@@ -58,6 +58,7 @@ make_files() {
         case $file in *.service) prefix=${1//%/%%} ;; esac
         sed "s|@PREFIX@|$prefix|g" "$file" > "$2/${file##*/}"
     done
+    sed 's|](docs/|](|g' "$here/../README.md" > "$2/README.md"
     "$here/install/manual.sh" "$2" "$1/share/doc/rlibreg"
 }
 
@@ -98,6 +99,11 @@ add_all() {
         add 644 "$here/../python/rlibreg/$name" "$modules/rlibreg/$name"
     done
     add 755 "$here/../share/bindings-to-dot" "$1/share/rlibreg/bindings-to-dot"
+    for name in rlibreg-gcc rlibreg-run rlibreg-tool; do
+        add 644 "$here/../share/completion/$name" "$1/share/bash-completion/completions/$name"
+    done
+    add link rlibreg-gcc "$1/share/bash-completion/completions/rlibreg-g++"
+    add 644 "$3/README.md" "$1/share/doc/rlibreg/README.md"
     for page in "$here"/../docs/*.md; do
         add 644 "$page" "$1/share/doc/rlibreg/${page##*/}"
     done

@@ -1,5 +1,5 @@
-/* rlibreg-run [-x] [-b BASE] [-c FOLDER [-v]] DISK PROGRAM [WORD].. starts a program with the
- * libraries of a registry.
+/* rlibreg-run [-x] [-b BASE] [-c FOLDER [-v]] [-w SECONDS] DISK PROGRAM [WORD].. starts a program
+ * with the libraries of a registry.
  *
  * The loader binds PROGRAM against the registry on DISK, and maps the image's segments at their
  * addresses with their permissions. Then it calls the initializers of the libraries, and jumps to
@@ -37,11 +37,38 @@ void give_up(int status, const char *what, const char *why) {
     exit(status);
 }
 
+#define USAGE "rlibreg-run [-x] [-b BASE] [-c FOLDER [-v]] [-w SECONDS] DISK PROGRAM [WORD]..\n"
+
 static _Noreturn void bad_words(void) {
-    fputs("rlibreg-run: usage: rlibreg-run [-x] [-b BASE] [-c FOLDER [-v]] DISK PROGRAM "
-          "[WORD]..\n",
-          stderr);
+    fputs("rlibreg-run: usage: " USAGE, stderr);
     exit(BAD_WORDS);
+}
+
+static const char help[] =
+    "usage: " USAGE
+    "Starts PROGRAM with the libraries of the registry on DISK.\n"
+    "\n"
+    "  -x           lets memory be writable and executable at once\n"
+    "  -b BASE      binds PROGRAM at this address\n"
+    "  -c FOLDER    keeps the image in FOLDER, and takes it from there\n"
+    "  -v           reports what is done with images\n"
+    "  -w SECONDS   waits this long for a locked DISK; without it, or with `forever`, without an end\n"
+    "  --help, --version\n"
+    "               print this text, or the version\n"
+    "\n"
+    "Exit status: that of PROGRAM; 125 refused, 126 a file or memory failed, 127 bad arguments.\n"
+    "The manual is rlibreg-run(1).\n";
+
+/* If the word is --help or --version, answers it and ends the process. */
+static void answer(const char *word) {
+    uint32_t version = rlibreg_version();
+    if (!strcmp(word, "--help"))
+        fputs(help, stdout);
+    else if (!strcmp(word, "--version"))
+        printf("rlibreg-run %u.%u.%u\n", version / 10000, version / 100 % 100, version % 100);
+    else
+        return;
+    exit(fflush(stdout) ? FAILED : 0);
 }
 
 /* Reads the arguments. Returns the index of DISK. If the program's output would be written into
@@ -74,12 +101,39 @@ static void cannot_read(int signal) {
     _exit(FAILED);
 }
 
+/* LONGEST is the number of seconds of the longest wait that one call can be asked for. */
+enum { SECOND = 1000, LONGEST = 1000000 };
+
+/* Opens the disk, and waits up to `seconds` seconds for its lock. */
+static uint32_t open_within(rlibreg *registry, const char *disk, uint32_t seconds) {
+    rlibreg_set_wait_limit(registry, (int)seconds * SECOND);
+    return rlibreg_open(registry, disk, RLIBREG_WAIT);
+}
+
+/* Opens the disk, and waits for its lock as long as the user wants. If that takes more than a second,
+ * says so once. */
+static uint32_t open_disk(const struct program *it, rlibreg *registry, const char *disk) {
+    uint32_t left = it->has_wait ? it->wait : LONGEST, now = left > 0;
+    uint32_t status = open_within(registry, disk, now);
+    if (status != RLIBREG_LOCKED || left == now) return status;
+    fprintf(stderr, "rlibreg-run: %s: another process has locked it: waiting\n", disk);
+    if (!it->has_wait) {
+        rlibreg_set_wait_limit(registry, -1);
+        return rlibreg_open(registry, disk, RLIBREG_WAIT);
+    }
+    for (left -= now; left && status == RLIBREG_LOCKED; left -= now) {
+        now = left < LONGEST ? left : LONGEST;
+        status = open_within(registry, disk, now);
+    }
+    return status;
+}
+
 /* Opens the disk, binds the program, maps it, and closes the disk. */
 static void load(struct program *it, struct keeping *keeping, const char *disk) {
     struct sigaction usual, ours = { .sa_handler = cannot_read };
     rlibreg *registry = rlibreg_create();
     if (!registry) fail("memory");
-    uint32_t status = rlibreg_open(registry, disk, RLIBREG_WAIT);
+    uint32_t status = open_disk(it, registry, disk);
     if (status == RLIBREG_SYSTEM) fail(disk);
     if (status) give_up(FAILED, disk, rlibreg_status_name(status));
     look_at_disk(keeping, it, disk, rlibreg_descriptor(registry));
@@ -135,6 +189,7 @@ static size_t pointers_in(char **words, char **environment) {
 int main(int argc, char **argv, char **environment) {
     struct program program = { 0 };
     struct keeping keeping = { .folder = -1, .user = geteuid(), .say = say };
+    if (argc == 2) answer(argv[1]);
     int disk = read_words(&program, &keeping, argc, argv), is_taken = 0;
     char **words = argv + disk + 1;
     const struct refused_stack refused = {

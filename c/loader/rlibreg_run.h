@@ -33,6 +33,8 @@ struct program {
     uint64_t base;         /* base at which it is bound */
     int has_base;          /* whether the user named the base */
     int may_be_both;       /* whether memory may be both writable and executable */
+    int has_wait;          /* whether the user limits the wait for DISK */
+    uint32_t wait;         /* the limit in seconds */
     rlibreg_image image;   /* image of the program and its libraries; after the start, only the
                             * objects and the libraries' names */
     rlibreg_object object; /* first object of the image: the program itself */

@@ -24,6 +24,22 @@ static int read_base(const char *word, uint64_t *base) {
     return 1;
 }
 
+/* Reads the limit of a wait: `forever`, or seconds of at most nine digits. Returns whether the word is
+ * one of these. */
+static int read_wait(const char *word, int *has_wait, uint32_t *seconds) {
+    static const char forever[] = "forever";
+    size_t length = 0;
+    while (length < sizeof forever && word[length] == forever[length] && word[length]) length++;
+    *has_wait = word[length] || forever[length];
+    *seconds = 0;
+    if (!*has_wait) return 1;
+    for (length = 0; word[length]; length++) {
+        if (length == 9 || digit_of(word[length]) >= 10) return 0;
+        *seconds = *seconds * 10 + digit_of(word[length]);
+    }
+    return length > 0;
+}
+
 /* Sets an option that has a value. Returns whether the value is valid. */
 static int take_value(struct program *it, struct keeping *keeping, char letter, const char *value) {
     if (!value) return 0;
@@ -31,6 +47,7 @@ static int take_value(struct program *it, struct keeping *keeping, char letter, 
         keeping->path = value;
         return 1;
     }
+    if (letter == 'w') return read_wait(value, &it->has_wait, &it->wait);
     it->has_base = 1;
     return read_base(value, &it->base);
 }
@@ -46,7 +63,7 @@ static int read_word(struct program *it, struct keeping *keeping, char **words, 
             it->may_be_both = 1;
         } else if (*at == 'v') {
             keeping->says_more = 1;
-        } else if (*at == 'b' || *at == 'c') {
+        } else if (*at == 'b' || *at == 'c' || *at == 'w') {
             const char *value = at[1] ? at + 1 : words[1];
             if (!at[1] && value) *taken = 2;
             return take_value(it, keeping, *at, value) && are_good;

@@ -2,6 +2,9 @@
  * program's `main`, and defines OUT_OF_MEMORY, STREAM and MESSAGE. */
 #define _GNU_SOURCE
 #include "rlibreg_stack.h"
+#ifdef TOOL
+#include "rlibreg_tool_words.h"
+#endif
 
 #include <sys/syscall.h>
 #include <unistd.h>
@@ -38,5 +41,11 @@ int __wrap_main(int argc, char **argv, char **environment) {
 #ifndef __GLIBC__
     give_words(argc, argv, environment);
 #endif
+#ifdef TOOL
+    int status = rlibreg_tool_words(argc, argv);
+    if (status >= 0) return status;
+    return rlibreg_run_tool(argc, argv, __real_main, environment);
+#else
     return __real_main(argc, argv, environment);
+#endif
 }

@@ -16,6 +16,10 @@ makes() {
     want "${*:2}: what is made" "$1" "$(cd made && echo *)"
     rm -r made
 }
+# The driver's own texts.
+want '--version' "$(gcc --version | tail -n +2)
+rlibreg-gcc $("$here/../version.sh")" "$($gcc --version | tail -n +2)"
+want '--help' "Usage: rlibreg-gcc [options] file..." "$($gcc --help | head -n 1)"
 echo 'int one(void) { return 1; }' > plain.c
 echo '#define ONE 1' > plain.h
 for words in -dumpversion '-### -o output' --help -fsyntax-only -M -Wl,--version; do

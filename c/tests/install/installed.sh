@@ -25,6 +25,16 @@ want 'a second time' "$(< said)" "$(< again)"
 want 'the list, and what is there' "$(tail -n +2 "$list" | sed 's/\/$//' | sort)" \
     "$(cd "$target" && find . -mindepth 1 | sed 's/^\.//' | sort)"
 grep "^left out" said || true
+want 'the links of the README' '' "$(grep -o '](docs/[^)]*)' "$target$prefix/share/doc/rlibreg/README.md" || true)"
+for name in rlibreg-gcc rlibreg-g++ rlibreg-run rlibreg-tool; do
+    want "completion of $name" 'complete -F _rlibreg' \
+        "$(bash -c '. "$1" && complete -p "$2"' - "$target$prefix/share/bash-completion/completions/$name" $name |
+            grep -o '^complete -F _rlibreg')"
+done
+want 'the forms that begin with d' 'digest dump' "$(bash -c '. "$1"
+    COMP_WORDS=(rlibreg-tool --wait 5 d) COMP_CWORD=3
+    _rlibreg_tool
+    echo "${COMPREPLY[*]}"' - "$target$prefix/share/bash-completion/completions/rlibreg-tool")"
 want 'what has a word of its source in it' '' "$(grep -rlE '@(PREFIX|VERSION)@' "$target" || true)"
 for script in hooks scripts/init-premount; do
     sh -n "$target$prefix/share/initramfs-tools/$script/rlibreg"

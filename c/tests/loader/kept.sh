@@ -565,7 +565,7 @@ for run in ./run-kept "$built/rlibreg-run"; do
 done
 want 'a loader whose output is the disk' 'rlibreg-run: disk: Text file busy
 = 126' "$(./run-kept -c kept disk ./chain 2>&1 >> disk || echo "= $?")"
-want 'no folder' 'rlibreg-run: usage: rlibreg-run [-x] [-b BASE] [-c FOLDER [-v]] DISK PROGRAM [WORD]..
+want 'no folder' 'rlibreg-run: usage: rlibreg-run [-x] [-b BASE] [-c FOLDER [-v]] [-w SECONDS] DISK PROGRAM [WORD]..
 = 127' "$(ended ./run-kept -c)"
 want '-v alone' "$changed" "$(ended ./run-kept -v disk ./chain)"
 echo 'kept: when an image is taken, and when not, as wanted'

@@ -16,7 +16,7 @@ rm -f disk
 for name in one two both; do ./tool install disk lib$name.so > /dev/null; done
 
 # Arguments.
-usage='rlibreg-run: usage: rlibreg-run [-x] [-b BASE] [-c FOLDER [-v]] DISK PROGRAM [WORD]..
+usage='rlibreg-run: usage: rlibreg-run [-x] [-b BASE] [-c FOLDER [-v]] [-w SECONDS] DISK PROGRAM [WORD]..
 = 127'
 want 'no words' "$usage" "$(ended ./rlibreg-run)"
 want 'not even a name' "$usage" "$(ended ./within no-words ./rlibreg-run)"
@@ -26,6 +26,39 @@ want '-b alone' "$usage" "$(ended ./rlibreg-run -b 0x10000)"
 for base in 0x 0x1z 1f '' ' 5' +5 -4096 '0x 5' 0x+5 0x10000000000000000; do
     want "the base '$base'" "$usage" "$(ended ./rlibreg-run -b "$base" disk ./words)"
 done
+for wait in '' x -1 1.5 1000000000 foreve foreverx; do
+    want "the wait '$wait'" "$usage" "$(ended ./rlibreg-run -w "$wait" disk ./words)"
+done
+want '-w alone' "$usage" "$(ended ./rlibreg-run -w)"
+want '--version' "rlibreg-run $("$here/../version.sh")
+= 0" "$(ended ./rlibreg-run --version)"
+want '--help' 'usage: rlibreg-run [-x] [-b BASE] [-c FOLDER [-v]] [-w SECONDS] DISK PROGRAM [WORD]..' \
+    "$(./rlibreg-run --help | head -n 1)"
+want '--help at a full output' '= 126' "$(./rlibreg-run --help > /dev/full || echo "= $?")"
+want '--help with a word' "$usage" "$(ended ./rlibreg-run --help disk)"
+
+# Waiting for a disk that another process has locked.
+started=$(ended ./rlibreg-run disk ./words)
+want 'a disk that is free' "$started" "$(ended ./rlibreg-run -w 0 disk ./words)"
+want 'a disk that is free, without an end' "$started" "$(ended ./rlibreg-run -w forever disk ./words)"
+(exec 9<> disk && flock -x 9 && exec sleep 30) &
+holder=$!
+until ! flock -n -s disk true; do sleep 0.01; done
+locked='rlibreg-run: disk: the file is locked
+= 126'
+waits='rlibreg-run: disk: another process has locked it: waiting'
+want 'no wait' "$locked" "$(ended timeout 0.9 ./rlibreg-run -w 0 disk ./words)"
+want 'a wait of a second' "$locked" "$(ended ./rlibreg-run -w 1 disk ./words)"
+want 'a wait of two seconds' "$waits
+$locked" "$(ended ./rlibreg-run -w 2 disk ./words)"
+want 'a wait that a signal ends' "$waits
+= 124" "$(ended timeout 1.5 ./rlibreg-run disk ./words)"
+kill "$holder"
+wait "$holder" 2> /dev/null || true
+(exec 9<> disk && flock -x 9 && exec sleep 2) &
+until ! flock -n -s disk true; do sleep 0.01; done
+want 'a wait that ends well' "$waits
+$started" "$(ended ./rlibreg-run disk ./words)"
 
 # Files.
 truncate -s 4096 zeros

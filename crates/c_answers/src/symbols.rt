@@ -37,7 +37,8 @@ struct Told {
 }
 
 /// Returns the status of a report of bindings: 0 if each symbol is bound, and otherwise the status
-/// of B5 (Undefined).
+/// of B5 (Undefined). The argument is the value that `Bindings::write_text` returned: no caller
+/// passes a literal.
 fn bound_status(bound: bool) -> u32
     ensures { result ≡ (if bound then 0 else 105) }
 {

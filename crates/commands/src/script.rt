@@ -108,6 +108,8 @@ fn run_lines<R: Read, W: Write, G: TakesEvents>(
         lines: 0,
         refused: 0,
     };
+    // Each round answers a line, or returns. The bound is never reached: 2^64 lines would take
+    // centuries.
     for _ in 0..u64::MAX {
         match next_line(pages, &mut line, waiting, writer)? {
             Got::Whole => {

@@ -63,6 +63,8 @@ pub fn read_all<F: Read>(alloc: Global, file: &mut F, limit: usize) -> Result<Ve
 {
     let mut bytes = Vec::new(alloc);
     let mut page = [0u8; PAGE];
+    // Each round reads a page, returns, or was interrupted by a signal. The bound is never reached:
+    // 2^64 calls would take centuries.
     for _ in 0..u64::MAX {
         match read_page(file, &mut page)? {
             Some(count) if count >= limit - bytes.len() => return Err(FileFault::CannotRead),

@@ -15,6 +15,8 @@ pub fn say<E: Write>(errors: &mut E, line: &[u8])
     ensures { AppendsFront (E.contents errors.old) (E.contents errors.new) line.now }
 {
     let mut given = 0;
+    // Each round writes a byte, returns, or was interrupted by a signal. The bound is never reached:
+    // 2^64 calls would take centuries.
     for _ in 0..u64::MAX {
         if given == line.len() {
             return;

@@ -88,6 +88,8 @@ pub(crate) fn read_line<R: BufRead>(reader: &mut R, line: &mut Vec<u8>) -> Resul
     ensures fault { IfErr result (λ fault. fault ≢ ScriptFault.Write) }
 {
     line.clear();
+    // Each round adds a part to the line, returns, or was interrupted by a signal. The bound is
+    // never reached: 2^64 calls would take centuries.
     for _ in 0..u64::MAX {
         if let Some(got) = read_part(reader, line)? {
             return Ok(got);

@@ -1,4 +1,8 @@
 // Opens the file of a disk, and carries out the action of the arguments.
+//
+// These functions have up to eight arguments, because each stream is an argument of its own: a
+// contract compares the contents of each stream before and after a call, and only `update` has an
+// input.
 
 ghost use Rattle.std.specs.Prelude.{◌≡◌, false};
 ghost use Rattle.requests.specs.Request.{request_of};

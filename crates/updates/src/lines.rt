@@ -117,6 +117,8 @@ fn read_lines<D: Disk, I: Read, O: Write>(
         (append_known (O.contents output.new) waiting.new.waiting) update.old update.new) }
 {
     let mut line = Vec::new(alloc);
+    // Each round answers a line, or returns. The bound is never reached: 2^64 lines would take
+    // centuries.
     for _ in 0..u64::MAX {
         match next_line(pages, &mut line, waiting, output)? {
             Got::Whole => {
