@@ -1,5 +1,5 @@
-# Executables are made of the programs that don't need the damaged library, and are run. None is made of
-# a program that needs it.
+# Makes and runs executables of the programs that don't need the damaged library. A program that needs it
+# is refused.
 make_library none 0
 make_library init '0; } __attribute__((constructor)) static void begin(void) {'
 make_library fini '0; } __attribute__((destructor)) static void end(void) {'

@@ -1,5 +1,5 @@
 #!/usr/bin/env python3
-"""Times the program `rlibreg` over many libraries, an update by `rlibreg-tool` (TOOL), and the upgrade of a disk of version 1,
+"""Times the program `rlibreg` with many libraries, an update by `rlibreg-tool` (TOOL), and the upgrade of a disk of version 1,
 compared with `cp` and `sync` of as many bytes.
 
     python3 bench/benchmarks/many.py PROGRAM TOOL FOLDER

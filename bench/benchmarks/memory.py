@@ -1,5 +1,5 @@
 #!/usr/bin/env python3
-"""Measures how much of the system's memory ten idle SQLite shells take: linked statically, started by rlibreg-run, and started
+"""Measures how much of the system's memory ten idle SQLite shells use: linked statically, started by rlibreg-run, and started
 by rlibreg-run from a kept image.
 
     python3 bench/benchmarks/memory.py PROGRAMS FOLDER [--sources SOURCES]

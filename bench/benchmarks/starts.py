@@ -1,6 +1,6 @@
 #!/usr/bin/env python3
-"""Times how a program of many libraries starts: by the system's own loader, which binds all at once, by rlibreg-run, and by
-rlibreg-run from a kept image.
+"""Times the start of a program with many libraries: with the system's own loader, which binds all at once, with rlibreg-run,
+and with rlibreg-run from a kept image.
 
     python3 bench/benchmarks/starts.py FOLDER [LIBRARIES [RELOCATIONS]]
 

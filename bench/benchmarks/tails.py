@@ -1,5 +1,5 @@
 #!/usr/bin/env python3
-"""Times binds of names that are tails of a few long strings.
+"""Times binds with names that are suffixes of a few long strings.
 
     python3 bench/benchmarks/tails.py FOLDER PROGRAM ..
 

@@ -1,5 +1,5 @@
 #!/usr/bin/env python3
-"""Tries the program `rlibreg` on disks that lie on read-only media, and on disks that are block devices: loop devices and
+"""Tests the program `rlibreg` on disks that lie on read-only media, and on disks that are block devices: loop devices and
 partitions of them. Needs root and the programs that make such media; if the machine lacks something, the part that needs
 it is left out, and a line reports this.
 

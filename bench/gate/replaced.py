@@ -1,7 +1,7 @@
 #!/usr/bin/env python3
-"""Puts another file in the place of a disk while the program `rlibreg`, or `update`, `replace` or `remove` of
-`rlibreg-tool`, changes it, as a process without the lock could: a change that nobody would see must never be answered
-`ok`. Some parts need strace, root or loop devices, and say so if they are left out.
+"""Puts another file in the place of a disk, as a process without the lock could, while the program `rlibreg`, or `update`,
+`replace` or `remove` of `rlibreg-tool`, changes the disk. A change that nobody would see must never be answered with `ok`.
+Some parts need strace, root or loop devices, and say so if they are left out.
 
     python3 bench/gate/replaced.py PROGRAM FOLDER [--tool RLIBREG_TOOL]
 

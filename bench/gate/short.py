@@ -1,5 +1,5 @@
 """Runs commands of the programs `rlibreg` and `rlibreg-tool` while a read or a write of the disk transfers fewer bytes than
-the program asks for; `faults.py` calls it.
+the program requests; `faults.py` calls it.
 
 There are three ways to make a call short:
 

@@ -42,15 +42,15 @@ FOLDERS = {
 PLAIN = {
     'c/install/debian/control': 'the name, the version and the dependencies of the package',
     'c/install/debian/copyright': 'the licence of the package',
-    'c/install/debian/plugin-control': "the same of the package of gcc's plugin",
+    'c/install/debian/plugin-control': "the name, the version and the dependencies of the package of gcc's plugin",
     'c/install/debian/plugin-copyright': "the licence of gcc's plugin",
     'c/install/debian/cxx-control': "the same of the package of C++'s standard library",
     'c/install/debian/cxx-copyright': "the licence of C++'s standard library",
     'c/install/debian/postinst': 'what the package does after it is installed',
     'c/install/debian/prerm': 'what the package does before it is removed',
     'c/install/debian/triggers': 'what the system does after an installation: it updates its list of libraries and its initramfs',
-    'c/install/rlibreg.pc.in': 'the file by which pkg-config finds the C library',
-    'bench/trials/real.sql': 'what a shell of SQLite does every day'}
+    'c/install/rlibreg.pc.in': 'the file with which pkg-config finds the C library',
+    'bench/trials/real.sql': 'everyday commands for a shell of SQLite'}
 UNLISTED = {'Lib.antt', 'inside.antt', 'README.md', 'py.typed', 'start.o'}
 ENDINGS = {'.rt', '.antt', '.c', '.cc', '.h', '.py', '.sh', '.awk', '.lua', '.sql', '.rs', '.in', '.specs', '.rules', '.service', '.mount', '.conf', ''}
 MARK = re.compile(r'^\s*(?:///?!?|//!|--|#|/\*+|\*(?!/)|""")[ ]?')

@@ -22,6 +22,8 @@ CALLED, INCLUDED = re.compile(r'\b(\w+)\('), re.compile(r'^ *# *include "([^"]+)
 MOST, OTHERS = 4, 'other files'
 QUOTED, BRACES = re.compile(r'`([^`\n]+)`'), re.compile(r'\{([^{}]*)\}')
 BEGIN, END = '<!-- {} -->', '<!-- end of {} -->'
+# The mark of definitions whose source is this project: only the pages of definitions explain it.
+OWN = re.compile(r' \(own\)$')
 
 
 def expanded(path):
@@ -106,7 +108,7 @@ def rest(crate, text):
     named = {path for quoted in QUOTED.findall(text) for path in expanded(quoted)}
     home = ROOT / 'crates' / crate
     inner = sorted({str(Path(it).parent) for it in tracked() if re.match(rf'crates/{crate}/(src|specs)/', it)}, key=lambda it: ('/specs' in it, it))
-    return [f'| `{path.relative_to(home).as_posix()}` | {file_map.sentence(path)} |' for folder in inner for path in file_map.files_in(folder, tracked())
+    return [f'| `{path.relative_to(home).as_posix()}` | {OWN.sub("", file_map.sentence(path))} |' for folder in inner for path in file_map.files_in(folder, tracked())
             if path.name != 'lib.rt' and path.relative_to(home).as_posix() not in named]
 
 

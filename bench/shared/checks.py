@@ -1,5 +1,5 @@
-"""The parts that the scripts about processes, making and media share: the program and the C library's test program in a
-folder, and the number of things that were checked and of things that were wrong."""
+"""The parts that the scripts about processes, making and media share: they run the program and the C library's test program
+in a folder, and count the checks and the faults."""
 
 import collections
 import contextlib

@@ -1,6 +1,6 @@
-"""The registry that the bytes of a disk hold, by docs/FORMATS.md, and the results of commands on it. For the other
-scripts here. Whether a file is a library isn't tested: its name is given with its bytes. This module knows only the
-refusals that are possible on a disk with room for all libraries."""
+"""Reads the registry that the bytes of a disk hold, as docs/FORMATS.md defines it, and computes the results of commands on
+it. Other scripts use this module. It doesn't test whether a file is a library: the name is given with the bytes. It knows
+only the refusals that are possible on a disk with room for all libraries."""
 
 import collections
 import struct

@@ -1,5 +1,5 @@
-/* Prints two times in nanoseconds: the time of an access to thread-local data; and that of a thread's start,
- * its first access and its end together. */
+/* Prints two times in nanoseconds: the time of an access to thread-local data, and the time of a thread's
+ * start, its first access and its end together. */
 #define _GNU_SOURCE
 #include <pthread.h>
 #include <stdio.h>

@@ -1,7 +1,8 @@
 #!/usr/bin/env bash
-# fleet_made.sh makes what fleet.sh serves, inside its Debian and in the folder /www, which has the
-# libraries: four versions of a registry, for each way, signed; and below `other` the last version, signed
-# by another key. /try/sign has the commands that make and sign the sum of `image`.
+# fleet_made.sh makes the files that fleet.sh serves. It runs in the Debian of fleet.sh, in the folder /www,
+# which has the libraries. It makes four signed versions of a registry, in the form that each way needs. The
+# folder `other` gets the last version, signed with another key. /try/sign has the commands that make and
+# sign the sum of `image`.
 set -eu
 cd /www
 sectors=8192

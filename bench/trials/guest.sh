@@ -1,4 +1,4 @@
-# guest.sh is read by scripts that run as root and try documents in a Debian under qemu. These scripts have
+# guest.sh is read by scripts that run as root and test documents in a Debian under qemu. These scripts have
 # set `room`, a folder of their own; `built`, which has what c/build.sh has made; `release`; and `page`, the
 # document. They need debootstrap, qemu-system-x86, fdisk and e2fsprogs. ACCEL is qemu's -accel, and
 # PATIENCE is the number of seconds that a guest may take (1,800).

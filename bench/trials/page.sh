@@ -1,4 +1,4 @@
-# page.sh is read by scripts: it finds the commands of a document.
+# page.sh finds the commands of a document. Other scripts read it.
 
 # commands PAGE [SECTION FIRST]: prints all commands of the page, or those of a section that begin with
 # the command that contains FIRST, up to the next line that is no command.

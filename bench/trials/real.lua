@@ -1,4 +1,4 @@
--- What a script of every day does: each part prints what it found, the last line that all were run.
+-- Uses Lua as everyday scripts do: each part prints its results, and the last line says that all parts ran.
 
 -- Strings and numbers
 print("format", ("%5d|%-6s|%06.2f|%x|%q|%a"):format(42, "ab", 3.14159, 255, "a\n\0b", 1.5))

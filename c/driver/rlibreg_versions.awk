@@ -1,6 +1,7 @@
-# Makes version scripts one that names no version: what any of them has global or local stays so, and
-# what is both is global. A line of the character FS follows each script. A script that is refused, such
-# as for a symbol with two versions, ends it with 1 and a line of the script's number and the reason.
+# Makes one version script of all, which names no version: symbols that any script has global or local
+# stay so, and symbols that are both are global. A line of the character FS follows each script. A
+# script that is refused, such as for a symbol with two versions, ends it with 1 and a line of the
+# script's number and the reason.
 #
 # Of emulated thread-local data a variable `x` has the symbol `__emutls_v.x`. If the variable `emulated` is
 # set, the scripts' names get such names beside them.

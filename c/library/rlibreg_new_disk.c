@@ -1,4 +1,4 @@
-/* Makes the file of a disk that doesn't exist yet, under another name until it is whole.
+/* Makes the file of a disk that doesn't exist yet, with another name until the file is complete.
  * rlibreg_format calls this (rlibreg_format.c). */
 #define _GNU_SOURCE
 #include "rlibreg_disk_file.h"

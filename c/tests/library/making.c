@@ -1,5 +1,5 @@
-/* making LIBRARY NAME makes registries in the folder where it is run, with the calls of the system
- * watched. The test makes each call fail, and every two calls, and ends the process at each call.
+/* making LIBRARY NAME makes registries in the folder where it is run, and watches the system
+ * calls. The test makes each call fail, and every two calls, and ends the process at each call.
  * It also tries file systems without hard links, and files that exist before or are put there
  * meanwhile. After each of these, there has to be no disk or a whole one, and a registry can be
  * made. LIBRARY has the SONAME NAME. */

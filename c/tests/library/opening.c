@@ -1,5 +1,5 @@
-/* opening LIBRARY NAME opens disks in the folder where it is run, with the calls of the system
- * watched. It checks the order of the calls, locks, files that are replaced meanwhile, syncs that a
+/* opening LIBRARY NAME opens disks in the folder where it is run, and watches the system
+ * calls. It checks the order of the calls, locks, files that are replaced meanwhile, syncs that a
  * file system doesn't support, and block devices, for which regular files are used. LIBRARY has the
  * SONAME NAME. */
 #define _GNU_SOURCE

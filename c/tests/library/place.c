@@ -1,5 +1,5 @@
 /* place LIBRARY NAME shortens, lengthens, replaces and removes the file of a disk, before a change
- * and at each of its calls of the system. LIBRARY has the SONAME NAME. */
+ * and at each of its system calls. LIBRARY has the SONAME NAME. */
 #define _GNU_SOURCE
 #include "watched.h"
 

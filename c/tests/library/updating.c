@@ -1,6 +1,7 @@
-/* updating LIBRARY NAME ends the updater of docs/C.md at each call of the system by which it opens,
- * makes and writes a disk. It tries this with no file before, and with each file that may exist
- * before. Then it runs the updater again, which has to succeed. Then eight threads run it at once.
+/* updating LIBRARY NAME ends the updater of docs/C.md at each system call with which it opens,
+ * makes and writes a disk. It tests this without a file, and with each file that may exist before
+ * the updater runs. Then it runs the updater again, which has to succeed. Then eight threads run it
+ * at once.
  * The test is linked with the updater, whose main is updater_main. LIBRARY has the SONAME NAME. */
 #define _GNU_SOURCE
 #include "watched.h"

@@ -1,5 +1,5 @@
-/* The calls of the system by which a disk is opened, locked and made, watched by a test. The test
- * is linked with --wrap for each of these calls, by the list in run.sh. */
+/* Watches the system calls that open, lock and make a disk. A test that watches them is linked with
+ * --wrap for each of these calls, by the list in run.sh. */
 #ifndef WATCHED_H
 #define WATCHED_H
 

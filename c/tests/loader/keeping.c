@@ -1,7 +1,7 @@
-/* The calls of the system by which an image is kept. They have a clock that is ten seconds ahead,
- * so that no file was changed just now. They are linked into the loader with --wrap. Call number
- * DIE ends the process as a kill does, before it is made. Call number FAIL fails. Among the reads
- * by which an image is looked for, read number READ fails. If OLD is set, the kernel lacks the call
+/* Replaces the system calls that keep an image. The replacements have a clock that is ten seconds
+ * ahead, so that no file was changed just now. They are linked into the loader with --wrap. Call
+ * number DIE ends the process as a kill does, before it is made. Call number FAIL fails. Among the
+ * reads that look for an image, read number READ fails. If OLD is set, the kernel lacks the call
  * to read pages, and if UNREAD is set, that call fails. */
 #define _GNU_SOURCE
 #include <errno.h>

@@ -1,4 +1,4 @@
-/* kept FILE tries the key of a kept image, and the checks of its file before the file is used. It
+/* kept FILE tests the key of a kept image, and the checks of its file before the file is used. It
  * may write FILE. */
 #define _GNU_SOURCE
 #include "rlibreg_run_kept.h"

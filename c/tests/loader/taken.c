@@ -1,4 +1,4 @@
-/* Maps at addresses that are in use, and a bind that reports itself if BINDS is set. They are
+/* Simulates addresses that are in use, and a bind that reports itself if BINDS is set. Both are
  * linked into the loader with --wrap=mmap, --wrap=kernel_map and --wrap=rlibreg_bind. Of the maps
  * that request an address, the first FREE get it, the next TAKEN find it in use, and all later maps
  * get it again. If ELSEWHERE is set, the maps that find it in use get another address, as from a
