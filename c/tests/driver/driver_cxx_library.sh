@@ -47,7 +47,7 @@ starts() {
     want "$1: a kept image" "$wanted" "$(ended "$built/rlibreg-run" -c images disk ./program)"
 }
 for linker in $linkers; do
-    for words in -O2 '-O0 -g' '-O2 -flto'; do
+    for words in -O2 '-O0 -g' '-O2 -flto=auto -ffat-lto-objects'; do
         builds -fuse-ld=$linker $words
         starts "$linker $words"
     done
