@@ -14,6 +14,7 @@ If this machine lacks something, the part that needs it is left out, and a line 
 import argparse
 import collections
 import os
+import re
 import subprocess
 import sys
 from pathlib import Path
@@ -21,10 +22,11 @@ from pathlib import Path
 sys.path[1:1] = map(str, Path(__file__).resolve().parents[1].glob('*/'))  # the folders of bench
 import real_builds
 import unchanged
+import unchanged_plus
 from checks import NOBODY, Checks, emptied, has
 from debian_sources import NotHad
 from disks import install
-from real_trials import TRIALS
+from real_trials import TRIALS as OF_C
 
 SECTORS, BASE = '32768', '0x10000000'
 ENVIRONMENT = {'PATH': '/usr/bin:/bin', 'HOME': '/', 'LC_ALL': 'C', 'TZ': 'UTC'}
@@ -35,8 +37,10 @@ Ended = collections.namedtuple('Ended', 'status output errors')
 Variant = collections.namedtuple('Variant', 'name file before')
 
 
-# The programs that are built by hand. `unchanged.PROJECTS` has those that are built by their own commands.
+# The programs that are built by hand, and the projects that are built by their own commands.
 BY_HAND = {'Lua': real_builds.lua, 'SQLite': real_builds.sqlite}
+PROJECTS = {**unchanged.PROJECTS, **unchanged_plus.PROJECTS}
+TRIALS = {**OF_C, **unchanged_plus.TRIALS}
 
 
 def done(*words):
@@ -76,7 +80,8 @@ class Bench:
         words = [*map(str, before), f'./{trial.program}', *step.words]
         it = subprocess.run(words, cwd=self.place, env=ENVIRONMENT, input=step.given,
                             capture_output=True, timeout=WAIT)
-        return Ended(it.returncode, it.stdout, it.stderr)
+        output = re.sub(trial.times, b'(a time)', it.stdout) if trial.times else it.stdout
+        return Ended(it.returncode, output, it.stderr)
 
     def results(self, trial, file, before):
         """Returns the status and output of each start, and the files that are left."""
@@ -127,7 +132,7 @@ def builds(bench, sources, names):
             if name in BY_HAND:
                 built[name] = BY_HAND[name](place, sources)
             else:
-                built[name] = unchanged.build(name, place, sources, built)
+                built[name] = unchanged.build(name, PROJECTS[name], place, sources, built)
         except NotHad as why:
             bench.checks.skip(name, why)
             continue
@@ -154,7 +159,7 @@ def asked_for():
     asked.add_argument('programs', type=Path)
     asked.add_argument('folder', type=Path)
     asked.add_argument('--sources', type=Path)
-    asked.add_argument('--only', nargs='+', choices=TRIALS, default=[*BY_HAND, *unchanged.PROJECTS])
+    asked.add_argument('--only', nargs='+', choices=TRIALS, default=[*BY_HAND, *PROJECTS])
     given = asked.parse_args()
     folder = emptied(given.folder.resolve())
     folder.chmod(0o755)

@@ -3,15 +3,19 @@ programs by musl-gcc. docs/LINKING.md has a table of them."""
 
 import collections
 import shutil
+import subprocess
+from pathlib import Path
 
 from debian_sources import NotHad
 from real_builds import Build, need, run
 
 # A project: its package; its commands, in which {cc} and {cxx} are the compilers, {words} are those of `linked` or of
 # `static`, and the name of a project in `before` is its folder; the places of its libraries, each after those that it
-# needs; its programs, each with its place and the place of the static one; and the tools that it needs.
+# needs; its programs, each with its place and the place of the static one; the tools that it needs; and whether it is of
+# C++, whose static programs are the system's.
 Project = collections.namedtuple(
-    'Project', 'package commands linked static libraries programs tools before', defaults=((), ()))
+    'Project', 'package commands linked static libraries programs tools before is_plus',
+    defaults=((), (), False))
 # The packages of tools that have another name.
 PACKAGES = {'libtoolize': 'libtool', 'tclsh': 'tcl'}
 CMAKE = 'cmake -DCMAKE_C_COMPILER={cc} -DCMAKE_CXX_COMPILER={cxx} {words} . && make'
@@ -118,10 +122,20 @@ def build_one(project, source, kind, words, compiler, before):
     return source.rename(place)
 
 
-def build(name, folder, archives, built):
+def library_of_plus():
+    """Returns C++'s standard library for a registry, beside the driver."""
+    version = subprocess.run(['g++', '-dumpfullversion'], capture_output=True, text=True).stdout.strip()
+    parts = Path(shutil.which('rlibreg-g++')).parent
+    found = parts / f'rlibreg_cxx-{version}' / 'libstdc++-rlibreg.so.6'
+    if not found.exists():
+        raise NotHad(f"there is no C++'s standard library for g++ {version}, which c/cxx.sh makes")
+    return found
+
+
+def build(name, project, folder, archives, built):
     """Builds a project with its programs, by the driver and as static programs. `built` has the projects that came
     before."""
-    project, it = PROJECTS[name], Build(folder)
+    it = Build(folder)
     for tool in project.tools:
         need(tool, PACKAGES.get(tool, tool))
     before = {other: built[other] for other in project.before if other in built}
@@ -129,11 +143,14 @@ def build(name, folder, archives, built):
         raise NotHad(f'{name} needs {", ".join(project.before)}')
     source = it.source(archives, project.package)
     static = ('musl-gcc', 'musl-gcc') if 'cmake' in project.tools else ('musl-gcc -static',) * 2
+    if project.is_plus:
+        it.libraries.append(library_of_plus())
+        static = ('gcc', 'g++')
     it.place = {
         'linked': build_one(project, source, 'linked', project.linked, ('rlibreg-gcc', 'rlibreg-g++'),
                             before),
         'static': build_one(project, source, 'static', project.static, static, before)}
-    it.libraries = [path for other in before.values() for path in other.libraries]
+    it.libraries += [path for other in before.values() for path in other.libraries if path not in it.libraries]
     it.libraries += [(it.place['linked'] / path).resolve() for path in project.libraries]
     for program, paths in project.programs.items():
         for kind, path, to in zip(('linked', 'static'), paths, (it.linked, it.static)):
