@@ -25,6 +25,7 @@ type -P musl-gcc > /dev/null || fail 'there is no musl-gcc'
 compiler=${COMPILER:-$(sed -n 's/.*REALGCC:-\([^}]*\)}.*/\1/p' "$(type -P musl-gcc)")}
 compiler=${compiler:-gcc}
 version=$("$compiler" -dumpfullversion)
+[ "$(g++ -dumpfullversion)" = "$version" ] || fail "there is no g++ of version $version"
 room=$(mktemp -d)
 trap 'rm -rf "$room"' EXIT
 

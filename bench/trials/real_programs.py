@@ -16,6 +16,7 @@ something, the part that needs it is left out, and a line reports this.
 import argparse
 import collections
 import os
+import re
 import subprocess
 import sys
 from pathlib import Path
@@ -24,6 +25,7 @@ sys.path[1:1] = map(str, Path(__file__).resolve().parents[1].glob('*/'))  # the 
 import real_builds
 import unchanged
 import unchanged_more
+import unchanged_plus
 from checks import NOBODY, Checks, emptied, has
 from debian_sources import NotHad
 from disks import install
@@ -46,8 +48,8 @@ Tried = collections.namedtuple('Tried', 'trial file wanted')
 KEPT, NUMBER = object(), 65534
 # The programs that are built by hand, and the projects that are built by their own commands.
 BY_HAND = {'Lua': real_builds.lua, 'SQLite': real_builds.sqlite}
-PROJECTS = {**unchanged.PROJECTS, **unchanged_more.PROJECTS}
-TRIALS = {**USUAL, **unchanged_more.TRIALS}
+PROJECTS = {**unchanged.PROJECTS, **unchanged_more.PROJECTS, **unchanged_plus.PROJECTS}
+TRIALS = {**USUAL, **unchanged_more.TRIALS, **unchanged_plus.TRIALS}
 
 
 def done(*words):
@@ -94,7 +96,8 @@ class Bench:
         words = [*map(str, before), f'./{trial.program}', *step.words]
         it = subprocess.run(words, cwd=self.place, env=ENVIRONMENT, input=step.given,
                             capture_output=True, timeout=WAIT)
-        return Ended(it.returncode, it.stdout, it.stderr)
+        output = re.sub(trial.times, b'(a time)', it.stdout) if trial.times else it.stdout
+        return Ended(it.returncode, output, it.stderr)
 
     def results(self, trial, file, before):
         """Returns the status and output of each start, and the files that are left."""

@@ -26,8 +26,9 @@ int main(int number, char **words) {
 # A start of a program: its arguments, its input, and the expected status.
 Step = collections.namedtuple('Step', 'words given status', defaults=(b'', 0))
 # The trial of a program: the files that it finds, its starts, and a test of its results. The test gets the status and
-# output of each start, the files that are left, and their folder.
-Trial = collections.namedtuple('Trial', 'program files steps is_right')
+# output of each start, the files that are left, and their folder. `times` is a pattern of the times that the program
+# prints, which differ in each start.
+Trial = collections.namedtuple('Trial', 'program files steps is_right times', defaults=(None,))
 
 
 def is_packed_right(ended, left, _):

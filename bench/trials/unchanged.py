@@ -3,6 +3,7 @@ programs by musl-gcc. docs/LINKING.md has a table of them."""
 
 import collections
 import shutil
+import subprocess
 from pathlib import Path
 
 from debian_sources import NotHad
@@ -11,11 +12,11 @@ from real_builds import Build, need, run
 # A project: its package; its commands, in which {cc} and {cxx} are the compilers, {words} are those of `linked` or of
 # `static`, and the name of a project in `before` is its folder; the places of its libraries, each after those that it
 # needs; its programs, each with its place and the place of the static one; the tools that it needs, `plugin` among them
-# if it has thread-local data; the projects that it needs; and the compilers of C and C++ of the programs with which those
-# of the driver are compared, if these aren't musl-gcc's.
+# if it has thread-local data; the projects that it needs; the compilers of C and C++ of the programs with which those of
+# the driver are compared, if these aren't musl-gcc's; and whether it needs C++'s standard library.
 Project = collections.namedtuple(
-    'Project', 'package commands linked static libraries programs tools before reference',
-    defaults=((), (), None))
+    'Project', 'package commands linked static libraries programs tools before reference is_plus',
+    defaults=((), (), None, False))
 # The packages of tools that have another name.
 PACKAGES = {'libtoolize': 'libtool', 'tclsh': 'tcl', 'ninja': 'ninja-build'}
 CMAKE = 'cmake -DCMAKE_C_COMPILER={cc} -DCMAKE_CXX_COMPILER={cxx} {words} . && make'
@@ -130,6 +131,16 @@ def need_plugin():
         raise NotHad('rlibreg-gcc has no plugin for thread-local data, which c/plugin.sh makes')
 
 
+def library_of_plus():
+    """Returns C++'s standard library for a registry, beside the driver."""
+    version = subprocess.run(['g++', '-dumpfullversion'], capture_output=True, text=True).stdout.strip()
+    parts = Path(shutil.which('rlibreg-g++')).parent
+    found = parts / f'rlibreg_cxx-{version}' / 'libstdc++-rlibreg.so.6'
+    if not found.exists():
+        raise NotHad(f"there is no C++'s standard library for g++ {version}, which c/cxx.sh makes")
+    return found
+
+
 def build(name, project, folder, archives, built):
     """Builds a project with its programs, by the driver and as static programs. `built` has the projects that came
     before."""
@@ -144,6 +155,8 @@ def build(name, project, folder, archives, built):
         raise NotHad(f'{name} needs {", ".join(project.before)}')
     source = it.source(archives, project.package)
     usual = ('musl-gcc' if 'cmake' in project.tools else 'musl-gcc -static',) * 2
+    if project.is_plus:
+        it.libraries.append(library_of_plus())
     it.place = {
         'linked': build_one(project, source, 'linked', project.linked, ('rlibreg-gcc', 'rlibreg-g++'),
                             before),

@@ -22,7 +22,7 @@ or compile all of it with -nostdlib++ (rlibreg-gcc(1), \"C++\")
 for words in '' -nostdlib++; do
     printf '%s\n' '#if __has_include(<version>)' '#error' '#endif' 'int main() { return 3; }' > asks.cc
     bare/$plus $words -o output asks.cc -lstdc++
-    want "a program of C++ $words" '= 3' "$(ended ./output)"
+    want "a program of C++ $words" '= 3' "$(ended "$built/rlibreg-run" disk ./output)"
 done
 
 if [ -d "$cxx" ]; then . "$here/driver/driver_cxx_library.sh"; else echo "left out: C++'s standard library"; fi

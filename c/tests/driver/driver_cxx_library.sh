@@ -47,7 +47,7 @@ starts() {
     want "$1: a kept image" "$wanted" "$(ended "$built/rlibreg-run" -c images disk ./program)"
 }
 for linker in $linkers; do
-    for words in -O2 '-O0 -g' '-O2 -flto'; do
+    for words in -O2 '-O0 -g' '-O2 -flto=auto -ffat-lto-objects'; do
         builds -fuse-ld=$linker $words
         starts "$linker $words"
     done
@@ -154,7 +154,7 @@ done
 
 # Eight jobs at once.
 for at in 1 2 3 4 5 6 7 8; do
-    ($plus -O1 -shared -o libjob$at.so driver_cxx_one.cc && echo done > said$at) &
+    ($plus -O1 $defined -shared -o libjob$at.so driver_cxx_one.cc && echo done > said$at) &
 done
 wait
 want 'eight jobs' '8' "$(cat said? | grep -c done)"

@@ -51,7 +51,7 @@ wrong: 0
 END_OF_FILE
 said=$(sed 's/@/no library of this name is bound to the program, which rlibreg-gcc links with --module FILE/' said)
 # opens WORD..: prints the output of the command without addresses.
-opens() { ended timeout 60 "$@" | sed 's/ 0x[0-9a-f]*$/ 0x/'; }
+opens() { ended timeout -s KILL 600 "$@" | sed 's/ 0x[0-9a-f]*$/ 0x/'; }
 
 # The program doesn't refer to the module, and the linker is told to leave out unused libraries.
 for linker in $linkers; do

@@ -14,7 +14,7 @@ refused 'thread-local data that is not emulated' \
 $gcc -O2 -o tried driver_threads_tried.c
 for word in many memory fork signals races keys errno threads; do
     want "attacks: $word" 'wrong: 0
-= 0' "$(ended timeout 60 "$built/rlibreg-run" disk ./tried $word | grep -v ' threads, not 10000$')"
+= 0' "$(ended timeout -s KILL 600 "$built/rlibreg-run" disk ./tried $word | grep -v ' threads, not 10000$')"
 done
 
 # emulated WORD..: compiles with the driver if it has its plugin, and otherwise with clang.

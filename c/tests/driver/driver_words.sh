@@ -77,13 +77,13 @@ want 'a folder' "$gcc: folder: it is a folder
 = 1" "$(ended $plain -o folder)"
 want 'a folder: what is in it' '' "$(ls -A folder)"
 mkfifo pipe
-timeout 20 cat pipe > got &
-want 'a pipe' '= 0' "$(ended timeout 20 $plain -o pipe)"
+timeout 300 cat pipe > got &
+want 'a pipe' '= 0' "$(ended timeout 300 $plain -o pipe)"
 wait $!
 cmp it got
 $plain -o /dev/stdout | cmp it -
 want 'a full device' '= 1' "$(ended $plain -o /dev/full | tail -n 1)"
-want 'a refused pipe' '= 1' "$(ended timeout 20 $gcc -shared indirect.c -o pipe 2> told | tail -n 1)"
+want 'a refused pipe' '= 1' "$(ended timeout 300 $gcc -shared indirect.c -o pipe 2> told | tail -n 1)"
 ln -s target to
 want 'a link to nothing, refused' '= 1' "$(ended $gcc -shared indirect.c -o to | tail -n 1)"
 [ ! -e target ]
@@ -112,7 +112,7 @@ printf '@outer' > first
 want 'words' '"a b" "b  b" c c d' "$($gcc -E @first 2> told | tr '\n' ' ' | sed 's/ *$//')"
 want 'a file of words that is none' 1 "$(grep -c 'error: @none: ' told)"
 echo @itself > itself
-want 'a file in itself' '= 1' "$(ended timeout 20 $gcc @itself | tail -n 1)"
+want 'a file in itself' '= 1' "$(ended timeout 300 $gcc @itself | tail -n 1)"
 cp two.map 'a "map"'
 printf '"--version-script=a \\"map\\"" @rest' > for_linker
 printf -- "-soname 'it\nis'" > rest
@@ -145,7 +145,7 @@ for linker in $linkers; do
     [ $linker != bfd ] || scripts+=(a=b.map -map '#map')
     for script in "${scripts[@]}"; do
         rm -f "$odd/$odd.so"
-        TMPDIR=$odd/temporary timeout 60 "$odd/parts/rlibreg-gcc" -fuse-ld=$linker -DNUMBER=1 -shared \
+        TMPDIR=$odd/temporary timeout 600 "$odd/parts/rlibreg-gcc" -fuse-ld=$linker -DNUMBER=1 -shared \
             "$odd/$odd.c" -Xlinker --version-script="$script" -Wl,-soname,it -o "$odd/$odd.so"
         want "$linker $script" 'also_one local_one one ' "$(exported "$odd/$odd.so")"
     done
