@@ -1,5 +1,6 @@
 #!/usr/bin/env python3
-"""Makes libraries with large and hostile tables, and times how long programs `rlibreg` take to read and admit them.
+"""Makes libraries with large and hostile tables, and measures how long builds of `rlibreg` take to read and admit
+them.
 
     python3 bench/benchmarks/tables.py FOLDER               makes the files
     python3 bench/benchmarks/tables.py FOLDER PROGRAM ..    runs the programs in turn on each file

@@ -67,7 +67,7 @@ def found_at(name, path):
 
 def conjuncts(text):
     """Returns the first word of each part of a clause's conclusion, which comes after its premises and binders. An
-    alternative has none."""
+    alternative has no such words."""
     text = ' '.join(text.split())
     text = re.split(r' → (?![^(]*\))|→ ', text)[-1] if '→' in text else text
     text = re.sub(r'^(?:IfOk|IfErr|IfSome) \w+ \((?:λ \w+\. )?', '', text)

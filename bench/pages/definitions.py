@@ -188,7 +188,7 @@ def section_of(text):
 
 
 def sentence(text):
-    """Returns a comment without the section of a standard that it names."""
+    """Returns a comment without its references to sections of standards."""
     for part in STANDARD.findall(text):
         if re.search(r'gABI|psABI|ld\.so|^own$', part) or part == 'elf(5)':
             text = text.replace(f' ({part})', '')

@@ -1,5 +1,5 @@
-"""The tables of files in the README of each folder outside the crates, and in that of each crate the rows of the files that
-no line written by hand names."""
+"""Makes the tables of files in the READMEs of the folders outside the crates. In the README of each crate, makes the rows of
+the files that no handwritten row names."""
 
 import re
 import subprocess
@@ -44,7 +44,7 @@ def tracked():
 
 @lru_cache
 def texts():
-    """Returns the text of each file that may use another file of a folder."""
+    """Returns the texts, by name, of the files in which the tables look for uses of other files."""
     return {name: (ROOT / name).read_text(errors='replace') for name in tracked()
             if name.startswith(CALLERS) and not name.startswith(('bench/pages/', 'c/install/debian/')) and not name.endswith('.md')}
 

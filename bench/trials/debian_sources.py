@@ -46,8 +46,8 @@ def archives(folder, package):
 
 
 def unpacked(folder, package, place):
-    """Unpacks the upstream source of a package, which apt-get loads if the folder doesn't have it. Returns the folder
-    in which the source is, and its version."""
+    """Unpacks the upstream source of a package. If the folder doesn't have the source, apt-get downloads it first. Returns
+    the folder of the unpacked source, and its version."""
     if not archives(folder, package):
         get(folder, package)
     (path,) = archives(folder, package)

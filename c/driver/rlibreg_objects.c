@@ -83,7 +83,7 @@ static uintptr_t unit_of(const struct rlibreg_object *it) {
     return unit;
 }
 
-/* Reads the dynamic section of an object into the other members. */
+/* Reads the dynamic section of the object, and sets the members of `it` that come from there. */
 static void read_dynamic(struct rlibreg_object *it) {
     uintptr_t name = 0;
     it->name = "";

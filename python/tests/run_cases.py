@@ -102,7 +102,7 @@ def run_command(disk, command, words):
 
 
 def asked(line):
-    """Returns the command of a line, and its words."""
+    """Returns the command of a line, and the command's arguments."""
     command, *words = line.split(' ')
     if command in ('install', 'replace'):
         words = [bytes.fromhex(words[0])]

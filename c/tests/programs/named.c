@@ -1,5 +1,5 @@
-/* A library that prints its name when it is initialized and finalized, by the program's C
- * library. */
+/* A library that uses the program's C library to print its name when it is initialized and when it
+ * is finalized. */
 #include <stdio.h>
 #include <stdlib.h>
 #include <string.h>
