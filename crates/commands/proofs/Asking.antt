@@ -1,6 +1,6 @@
 -- Lemmas about how a command of a registry on a disk ends.
 use Rattle.std.proofs.Common.{◌≡◌, ℕ, List, Option, Some, Result, Ok, Err, ap, refl, sym, subst, inl, inr}
-use Rattle.std.specs.Prelude.{is_some, false, ◌⊎◌, codes, IfErr, OnOk}
+use Rattle.std.specs.Prelude.{is_some, false, ◌⊎◌, codes, OnOk}
 use Rattle.std.specs.Io.KnownBytes.{Appends}
 use Rattle.image.specs.declared.refusal.BindRefusal.TheVariants as bind_refusal
 use Rattle.requests.specs.Request.{Request}
@@ -14,10 +14,7 @@ use Rattle.store.specs.Step.{answer_of}
 use Rattle.store.specs.declared.refusal.StoreRefusal.{StoreRefusal}
 use Rattle.store.specs.declared.refusal.StoreRefusal.TheVariants as store
 use Rattle.file_disk.specs.FileDisk.{file_facts, IsNew}
-use Rattle.file_disk.specs.Length.{IsLengthFault, IsOtherLength}
-use Rattle.file_disk.specs.declared.open.OpenFault.{OpenFault}
-use Rattle.file_disk.specs.declared.open.OpenFault.TheVariants as disk_file
-use Rattle.commands.specs.Disk.{disk_answer_text, IsFaultRefusal, IsOpenRefusal, IsFormatRefusal, IsUpgradeRefusal}
+use Rattle.commands.specs.Disk.{disk_answer_text, IsOpenRefusal, IsFormatRefusal, IsUpgradeRefusal}
 use Rattle.program_parts.specs.Refusal.{disk_refusal_text, memory_text}
 use Rattle.commands.specs.OnDisk.{RequestEnds, FormatEnds, UpgradeEnds}
 use Rattle.commands.specs.Opened.{SystemDisk, IsMade, IsUpgraded}
@@ -190,7 +187,7 @@ module _ (before after : Option (List ℕ)) where
       })
       status h.2
   request_replied disk left q status new (inr h) =
-      away_told (λ asked. asked ≡ q) status (told_away IsOpenRefusal h.0 status (inl (disk, left, new, h.1)) h.2)
+      away_told (λ asked. asked ≡ q) status (told_away IsOpenRefusal h.0 status ((file_facts disk).sectors, h.1.on_any_disk.ends.refusals) h.2)
 
   -- if a registry was made, and `ok` was written, `IsFormatted` holds for the end of the command
   pub made_told : (n : ℕ) (disk : SystemDisk) (registry : Opened SystemDisk) (status : Status) → IsMade n disk registry
@@ -228,19 +225,19 @@ module _ (before after : Option (List ℕ)) where
   ends_upgrading : (disk : SystemDisk) (upgrading : Result (Opened SystemDisk) (StoreRefusal × SystemDisk)) (status : Status) → IsNew disk → EndsUpgrading file_facts disk upgrading
       → IsTold (disk_answer_status (answer_of upgrading)) (disk_answer_text (answer_of upgrading)) before after status → IsUpgradedOver before after status
   ends_upgrading disk (Ok registry) status new is h = ends_upgraded disk registry status (record { new = new; upgrading = is }) h
-  ends_upgrading disk (Err e) status new is h = ends_not_upgraded status (told_away IsUpgradeRefusal e.0 status (inl (disk, e.1, new, is)) h)
+  ends_upgrading disk (Err e) status new is h = ends_not_upgraded status (told_away IsUpgradeRefusal e.0 status ((file_facts disk).sectors, is.on_any_disk.refusals) h)
 
   pub upgrade_told : (disk left : SystemDisk) (status : Status) → IsNew disk → UpgradeEnds file_facts disk before after status left → IsUpgradedOver before after status
   upgrade_told disk left status new h = ends_upgrading disk h.0 status new h.1 h.3
 
-  -- if no disk can be opened, `Replied` holds for the end of the command
-  pub away_replied : (IsAsked : Request → Type 0) (fault : OpenFault) (why : NoRegistry) (status : Status) → IsLengthFault fault → IsNoRegistry (IsFaultRefusal fault) why
-      → IsTurnedAway (λ r. why ≡ no.Refused r) before after status → Replied IsAsked before after status
-  away_replied IsAsked fault why Done may is h = absurd h
-  away_replied IsAsked fault why Refused may is h = inr (h.0, inr (fault, may, subst (IsNoRegistry (IsFaultRefusal fault)) h.1 is), h.2, h.3)
-  away_replied IsAsked fault why BadWords may is h = absurd h
-  away_replied IsAsked fault why Failed may is h = tt
-  away_replied IsAsked fault why NoMemory may is h = h
+  -- if the registry can't be opened, `Replied` holds for the end of the command
+  pub away_replied : (IsAsked : Request → Type 0) (why : NoRegistry) (status : Status) → IsNoRegistry IsOpenRefusal why → IsTurnedAway (λ r. why ≡ no.Refused r) before after status
+      → Replied IsAsked before after status
+  away_replied IsAsked why Done is h = absurd h
+  away_replied IsAsked why Refused is h = inr (h.0, subst (IsNoRegistry IsOpenRefusal) h.1 is, h.2, h.3)
+  away_replied IsAsked why BadWords is h = absurd h
+  away_replied IsAsked why Failed is h = tt
+  away_replied IsAsked why NoMemory is h = h
 
   -- if A implies B, a reply to a request for which A holds is a reply to one for which B holds
   also : (A B : Request → Type 0) → ((q : Request) → A q → B q) → (status : Status) → Replies A status before after → Replies B status before after
@@ -271,7 +268,7 @@ module _ (before after : Option (List ℕ)) where
 
   -- if a file can't be read, or memory is refused, `Replied` holds for the end of the command
   pub memory_replied : (IsAsked : Request → Type 0) (status : Status) → IsTold NoMemory memory_text before after status → Replied IsAsked before after status
-  memory_replied IsAsked status h = away_told IsAsked status (told_away IsOpenRefusal store.OutOfMemory status (inr (disk_file.OutOfMemory, tt, refl)) h)
+  memory_replied IsAsked status h = away_told IsAsked status (told_away IsOpenRefusal store.OutOfMemory status (8, refl) h)
 
   failed_replied : (IsAsked : Request → Type 0) (status : Status) → status ≡ Failed → Replied IsAsked before after status
   failed_replied IsAsked Failed h = tt
@@ -285,22 +282,21 @@ module _ (before after : Option (List ℕ)) where
   unread_replied IsAsked OutOfMemory status h = memory_replied IsAsked status h
 
   -- if a registry can't be made, `IsFormatted` holds for the end of the command
-  pub away_formatted : (n : ℕ) (why : NoRegistry) (status : Status) → IsNoRegistry (IsFormatRefusal n) why
+  pub away_formatted : (n : ℕ) (why : NoRegistry) (status : Status) → IsNoRegistry IsFormatRefusal why
       → IsTurnedAway (λ r. why ≡ no.Refused r) before after status → IsFormatted n before after status
   away_formatted n why Done is h = absurd h
-  away_formatted n why Refused is h = (h.0, subst (IsNoRegistry (IsFormatRefusal n)) h.1 is, h.2, h.3)
+  away_formatted n why Refused is h = (h.0, subst (IsNoRegistry IsFormatRefusal) h.1 is, h.2, h.3)
   away_formatted n why BadWords is h = absurd h
   away_formatted n why Failed is h = tt
   away_formatted n why NoMemory is h = h
 
-  -- if no disk can be opened, `IsUpgradedOver` holds for the end of the command
-  pub away_upgraded : (fault : OpenFault) (why : NoRegistry) (status : Status) → IsLengthFault fault → IsNoRegistry (IsFaultRefusal fault) why
-      → IsTurnedAway (λ r. why ≡ no.Refused r) before after status → IsUpgradedOver before after status
-  away_upgraded fault why Done may is h = absurd h
-  away_upgraded fault why Refused may is h = (h.0, inr (fault, may, subst (IsNoRegistry (IsFaultRefusal fault)) h.1 is), h.2, h.3)
-  away_upgraded fault why BadWords may is h = absurd h
-  away_upgraded fault why Failed may is h = tt
-  away_upgraded fault why NoMemory may is h = h
+  -- if a registry can't be upgraded, `IsUpgradedOver` holds for the end of the command
+  pub away_upgraded : (why : NoRegistry) (status : Status) → IsNoRegistry IsUpgradeRefusal why → IsTurnedAway (λ r. why ≡ no.Refused r) before after status → IsUpgradedOver before after status
+  away_upgraded why Done is h = absurd h
+  away_upgraded why Refused is h = (h.0, subst (IsNoRegistry IsUpgradeRefusal) h.1 is, h.2, h.3)
+  away_upgraded why BadWords is h = absurd h
+  away_upgraded why Failed is h = tt
+  away_upgraded why NoMemory is h = h
 
   -- if the base of a bind could be read, `BindEnds` holds for the end of the command
   pub bind_ends : (at : ℕ) (asked : Option ℕ) (IsAsked : Request → Type 0) (status : Status) → asked ≡ Some at → Replied IsAsked before after status → BindEnds asked IsAsked before after status
@@ -339,30 +335,7 @@ module _ (io : Streams) where
 -- the rules for commands whose arguments are only paths
 pub ruleset commands_end = (install_ends, replace_ends, list_ends)
 
--- if no disk can be opened, the reason is one for which no registry is made
-pub format_fault : (n : ℕ) (fault : OpenFault) (why : NoRegistry) → IsOtherLength n fault → IsNoRegistry (IsFaultRefusal fault) why → IsNoRegistry (IsFormatRefusal n) why
-format_fault n fault no.CannotOpen may is = tt
-format_fault n fault (no.Refused refusal) may is = inr (inl (fault, may, is))
-
--- if a registry was made, but its file may lose its name, the reason is one for which no registry is made
-pub named_refused : {T : Type 0} (n : ℕ) (result : Result T NoRegistry) → (disk : SystemDisk) × (registry : Opened SystemDisk) × IsMade n disk registry
-    → IfErr result (IsNoRegistry (λ refusal. refusal ≡ store.Device)) → IfErr result (IsNoRegistry (IsFormatRefusal n))
-named_refused n (Ok named) made is = tt
-named_refused n (Err no.CannotOpen) made is = tt
-named_refused n (Err (no.Refused refusal)) made is = inr (inr (made.0, made.1, made.2, is))
-
 module _ (n : ℕ) (disk : SystemDisk) where
-  refused_as : (making : Result (Opened SystemDisk) (StoreRefusal × SystemDisk)) → IsNew disk → (file_facts disk).sectors ≡ n → EndsMaking file_facts disk making
-      → IfErr (answer_of making) (IsFormatRefusal n)
-  refused_as (Ok registry) new sectors is = tt
-  refused_as (Err e) new sectors is = inl (disk, e.1, new, sectors, is)
-
-  -- if a new disk of n sectors was refused when a registry was made on it, the refusal is one for which no
-  -- registry is made
-  pub format_refused : (answer : Result (Unit {0}) StoreRefusal) (left : SystemDisk) → IsNew disk → (file_facts disk).sectors ≡ n → FormatEnds file_facts disk answer left
-      → IfErr answer (IsFormatRefusal n)
-  format_refused answer left new sectors h = subst (λ (a : Result (Unit {0}) StoreRefusal). IfErr a (IsFormatRefusal n)) (sym h.2) (refused_as h.0 new sectors h.1)
-
   made_as : (making : Result (Opened SystemDisk) (StoreRefusal × SystemDisk)) → IsNew disk → (file_facts disk).sectors ≡ n → EndsMaking file_facts disk making
       → OnOk (answer_of making) ((d : SystemDisk) × (registry : Opened SystemDisk) × IsMade n d registry)
   made_as (Ok registry) new sectors is = (disk, registry, record { new = new; sectors = sectors; making = is })

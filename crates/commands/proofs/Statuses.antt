@@ -3,9 +3,7 @@ use Rattle.std.proofs.Common.{◌≡◌, ◌≢◌, ℕ, Bool, true, false, cond
 use Rattle.binders.specs.declared.event.EventReply.{EventReply}
 use Rattle.binders.specs.declared.event.EventReply.TheVariants as event
 use Rattle.file_disk.specs.FileDisk.{file_facts, IsNew}
-use Rattle.file_disk.specs.Length.{IsLengthFault}
-use Rattle.file_disk.specs.declared.open.OpenFault.{OpenFault}
-use Rattle.commands.specs.Disk.{IsFaultRefusal, IsOpenRefusal}
+use Rattle.commands.specs.Disk.{IsOpenRefusal}
 use Rattle.commands.specs.OnDisk.{DiskScriptEnds}
 use Rattle.commands.specs.Opened.{SystemDisk}
 use Rattle.commands.specs.Outcome.{Runs}
@@ -77,12 +75,12 @@ away_ends io NoMemory h = inr h
 pub disk_script_ends : (disk left : SystemDisk) (io : Streams) (status : Status) → IsNew disk → status ≢ BadWords → DiskScriptEnds file_facts disk io status left → ScriptEnds io status
 disk_script_ends disk left io status new words (inl h) = run_ends io status words (record { disk = disk; new = new; left = left; run = h })
 disk_script_ends disk left io status new words (inr h) =
-    away_ends io status (told_away io.before io.after IsOpenRefusal h.0 status (inl (disk, left, new, h.1)) h.2)
+    away_ends io status (told_away io.before io.after IsOpenRefusal h.0 status ((file_facts disk).sectors, h.1.on_any_disk.ends.refusals) h.2)
 
-pub away_script : (io : Streams) (fault : OpenFault) (why : NoRegistry) (status : Status) → IsLengthFault fault → IsNoRegistry (IsFaultRefusal fault) why
+pub away_script : (io : Streams) (why : NoRegistry) (status : Status) → IsNoRegistry IsOpenRefusal why
     → IsTurnedAway (λ r. why ≡ no.Refused r) io.before io.after status → ScriptEnds io status
-away_script io fault why Done may is h = absurd h
-away_script io fault why Refused may is h = inr (h.0, inr (fault, may, subst (IsNoRegistry (IsFaultRefusal fault)) h.1 is), h.2, h.3)
-away_script io fault why BadWords may is h = absurd h
-away_script io fault why Failed may is h = tt
-away_script io fault why NoMemory may is h = inr h
+away_script io why Done is h = absurd h
+away_script io why Refused is h = inr (h.0, subst (IsNoRegistry IsOpenRefusal) h.1 is, h.2, h.3)
+away_script io why BadWords is h = absurd h
+away_script io why Failed is h = tt
+away_script io why NoMemory is h = inr h

@@ -103,7 +103,7 @@ IsDone None io = ⊥
 -- status 1: the command of the arguments was refused
 abbrev pub IsRefused : Option CommandLine → work.Streams → Type 0
 IsRefused (Some (image program base)) io = (b : ℕ) × (base_of base ≡ Some b) × PrintsRefusal b io.before io.after
-IsRefused (Some (format disk sectors)) io = TurnsAway (IsFormatRefusal sectors) Refused io.before io.after
+IsRefused (Some (format disk sectors)) io = TurnsAway IsFormatRefusal Refused io.before io.after
 IsRefused (Some (upgrade disk)) io = TurnsAway IsUpgradeRefusal Refused io.before io.after
 IsRefused (Some (script disk)) io = Runs io Refused ⊎ TurnsAway IsOpenRefusal Refused io.before io.after
 IsRefused (Some line) io = Replies (Asks line) Refused io.before io.after ⊎ TurnsAway IsOpenRefusal Refused io.before io.after

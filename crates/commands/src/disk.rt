@@ -2,8 +2,7 @@
 
 ghost use Rattle.std.specs.Prelude.{◌≡◌, false, OnOk, IfErr};
 ghost use Rattle.store.specs.Opened.{Opened};
-ghost use Rattle.store.specs.declared.refusal.StoreRefusal.TheVariants.{Device};
-ghost use Rattle.commands.specs.Disk.{IsFaultRefusal, IsFormatRefusal};
+ghost use Rattle.commands.specs.Disk.{IsOpenRefusal, IsFormatRefusal, IsUpgradeRefusal};
 ghost use Rattle.commands.specs.Opened.{SystemDisk, IsMade};
 ghost use Rattle.commands.specs.Said.{base_text};
 ghost use Rattle.commands.specs.inside.Ends.{IsNoRegistry, IsTurnedAway, IsSaid};
@@ -31,7 +30,9 @@ pub(crate) enum NoRegistry {
 /// Returns the reason why a file isn't a disk. S6 (BadGeometry) means that the file's length isn't
 /// a whole number of sectors, or isn't the requested number of sectors.
 pub(crate) fn no_disk(fault: OpenFault) -> NoRegistry
-    ensures { IsNoRegistry (IsFaultRefusal fault) result }
+    ensures open { IsNoRegistry IsOpenRefusal result }
+    ensures format { IsNoRegistry IsFormatRefusal result }
+    ensures upgrade { IsNoRegistry IsUpgradeRefusal result }
 {
     match fault {
         OpenFault::CannotOpen => NoRegistry::CannotOpen,
@@ -42,7 +43,7 @@ pub(crate) fn no_disk(fault: OpenFault) -> NoRegistry
 
 /// Gives the file of a registry its final name, if the file is new.
 fn name_file<R: Files<File = File>>(rt: &R, name: Option<UnnamedFile<'_>>) -> Result<(), NoRegistry>
-    ensures { IfErr result (IsNoRegistry (λ refusal. refusal ≡ Device)) }
+    ensures refused { IfErr result (IsNoRegistry IsFormatRefusal) }
 {
     match name.map_or(Ok(()), |name| name.publish(rt)) {
         Ok(()) => Ok(()),
@@ -61,7 +62,6 @@ fn take_away<R: Files<File = File>>(rt: &R, name: Option<UnnamedFile<'_>>) {
 /// Makes an empty registry on a disk of `sectors` sectors, which is the file at `path`. If the file
 /// doesn't exist, makes it under another name, and gives it its final name when the whole file is
 /// on the medium.
-#[tactic(auto, using(crate::proofs::Asking::format_fault))]
 pub(crate) fn make_registry<R: Files<File = File> + Clock>(
     rt: &R,
     alloc: Global,
@@ -70,7 +70,7 @@ pub(crate) fn make_registry<R: Files<File = File> + Clock>(
 ) -> Result<(), NoRegistry>
     ensures ok { OnOk result ((disk : SystemDisk) × (registry : Opened SystemDisk)
         × IsMade sectors disk registry) }
-    ensures refused { IfErr result (IsNoRegistry (IsFormatRefusal sectors)) }
+    ensures refused { IfErr result (IsNoRegistry IsFormatRefusal) }
 {
     let Made { disk, name } = match FileDisk::make(rt, alloc, path, sectors) {
         Ok(made) => made,

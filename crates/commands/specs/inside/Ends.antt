@@ -86,7 +86,7 @@ BindEnds asked IsAsked before after status = (is_some asked ≡ true) × Replied
 -- the end of making a registry of `sectors` sectors
 abbrev pub IsFormatted : ℕ → Option (List ℕ) → Option (List ℕ) → Status → Type 0
 IsFormatted sectors before after Done = Makes sectors before after
-IsFormatted sectors before after status = IsTurnedAway (IsFormatRefusal sectors) before after status
+IsFormatted sectors before after status = IsTurnedAway IsFormatRefusal before after status
 
 -- the end of upgrading a registry
 abbrev pub IsUpgradedOver : Option (List ℕ) → Option (List ℕ) → Status → Type 0

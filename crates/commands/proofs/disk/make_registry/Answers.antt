@@ -1,10 +1,9 @@
 use Rattle.std.proofs.Common.{Result, Ok, Err, subst}
-use Rattle.std.specs.Prelude.{IfErr, OnOk}
+use Rattle.std.specs.Prelude.{OnOk}
 use Rattle.store.specs.Opened.{Opened}
 use Rattle.store.specs.declared.refusal.StoreRefusal.{StoreRefusal}
-use Rattle.commands.specs.Disk.{IsFormatRefusal}
 use Rattle.commands.specs.Opened.{SystemDisk, IsMade}
-use Rattle.commands.proofs.Asking.{format_made, format_refused, named_refused}
+use Rattle.commands.proofs.Asking.{format_made}
 use Rattle.commands.proofs.disk.make_registry.Goals as goal
 
 -- a fact that is true in any case is true if the result is Ok
@@ -18,17 +17,3 @@ returns-in-Ok-made-clause-ok g c =
     anyway _ c.name_file.result
     (subst (λ (a : Result (Unit {0}) StoreRefusal). OnOk a ((d : SystemDisk) × (registry : Opened SystemDisk) × IsMade c.args.sectors d registry)) c.in-Ok-made.is
     (format_made c.args.sectors c.in-Ok.made.disk made.result.0 made.result.1 c.in-Ok.ensures.new c.in-Ok.ensures.sectors made.ensures))
-
-pub returns-in-Ok-made-clause-refused : goal.returns-in-Ok-made-clause-refused
-returns-in-Ok-made-clause-refused g c =
-    let made = c.run_format-made in
-    named_refused c.args.sectors c.name_file.result
-    (subst (λ (a : Result (Unit {0}) StoreRefusal). OnOk a ((d : SystemDisk) × (registry : Opened SystemDisk) × IsMade c.args.sectors d registry)) c.in-Ok-made.is
-    (format_made c.args.sectors c.in-Ok.made.disk made.result.0 made.result.1 c.in-Ok.ensures.new c.in-Ok.ensures.sectors made.ensures))
-    c.name_file.ensures
-
-pub returns-in-Err-made-clause-refused : goal.returns-in-Err-made-clause-refused
-returns-in-Err-made-clause-refused g c =
-    let made = c.run_format-made in
-    subst (λ (a : Result (Unit {0}) StoreRefusal). IfErr a (IsFormatRefusal c.args.sectors)) c.in-Err-made.is
-    (format_refused c.args.sectors c.in-Ok.made.disk made.result.0 made.result.1 c.in-Ok.ensures.new c.in-Ok.ensures.sectors made.ensures)
