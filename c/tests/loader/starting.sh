@@ -30,11 +30,12 @@ for wait in '' x -1 1.5 1000000000 foreve foreverx; do
     want "the wait '$wait'" "$usage" "$(ended ./rlibreg-run -w "$wait" disk ./words)"
 done
 want '-w alone' "$usage" "$(ended ./rlibreg-run -w)"
+# `plain` is the loader itself: twice.sh puts an option before the arguments of ./rlibreg-run.
 want '--version' "rlibreg-run $("$here/../version.sh")
-= 0" "$(ended ./rlibreg-run --version)"
+= 0" "$(ended $plain --version)"
 want '--help' 'usage: rlibreg-run [-x] [-b BASE] [-c FOLDER [-v]] [-w SECONDS] DISK PROGRAM [WORD]..' \
-    "$(./rlibreg-run --help | head -n 1)"
-want '--help at a full output' '= 126' "$(./rlibreg-run --help > /dev/full || echo "= $?")"
+    "$($plain --help | head -n 1)"
+want '--help at a full output' '= 126' "$($plain --help > /dev/full || echo "= $?")"
 want '--help with a word' "$usage" "$(ended ./rlibreg-run --help disk)"
 
 # Waiting for a disk that another process has locked.
