@@ -38,28 +38,28 @@ want '--help' 'usage: rlibreg-run [-x] [-b BASE] [-c FOLDER [-v]] [-w SECONDS] D
 want '--help at a full output' '= 126' "$($plain --help > /dev/full || echo "= $?")"
 want '--help with a word' "$usage" "$(ended ./rlibreg-run --help disk)"
 
-# Waiting for a disk that another process has locked.
-started=$(ended ./rlibreg-run disk ./words)
-want 'a disk that is free' "$started" "$(ended ./rlibreg-run -w 0 disk ./words)"
-want 'a disk that is free, without an end' "$started" "$(ended ./rlibreg-run -w forever disk ./words)"
+# Waiting for a disk that another process has locked. With a kept image, the loader doesn't wait.
+started=$(ended $plain disk ./words)
+want 'a disk that is free' "$started" "$(ended $plain -w 0 disk ./words)"
+want 'a disk that is free, without an end' "$started" "$(ended $plain -w forever disk ./words)"
 (exec 9<> disk && flock -x 9 && exec sleep 30) &
 holder=$!
 until ! flock -n -s disk true; do sleep 0.01; done
 locked='rlibreg-run: disk: the file is locked
 = 126'
 waits='rlibreg-run: disk: another process has locked it: waiting'
-want 'no wait' "$locked" "$(ended timeout 0.9 ./rlibreg-run -w 0 disk ./words)"
-want 'a wait of a second' "$locked" "$(ended ./rlibreg-run -w 1 disk ./words)"
+want 'no wait' "$locked" "$(ended timeout 0.9 $plain -w 0 disk ./words)"
+want 'a wait of a second' "$locked" "$(ended $plain -w 1 disk ./words)"
 want 'a wait of two seconds' "$waits
-$locked" "$(ended ./rlibreg-run -w 2 disk ./words)"
+$locked" "$(ended $plain -w 2 disk ./words)"
 want 'a wait that a signal ends' "$waits
-= 124" "$(ended timeout 1.5 ./rlibreg-run disk ./words)"
+= 124" "$(ended timeout 1.5 $plain disk ./words)"
 kill "$holder"
 wait "$holder" 2> /dev/null || true
 (exec 9<> disk && flock -x 9 && exec sleep 2) &
 until ! flock -n -s disk true; do sleep 0.01; done
 want 'a wait that ends well' "$waits
-$started" "$(ended ./rlibreg-run disk ./words)"
+$started" "$(ended $plain disk ./words)"
 
 # Files.
 truncate -s 4096 zeros
